@@ -1,0 +1,36 @@
+-- The bounds and the marks of document 01, and what opening allows.
+-- Assumes nothing.
+use Prim.Native.Nat.{ℕ, _-_, _^_}
+use mathlib.Core.Bool.{Bool, true, false, _&&_}
+use lib.Dec.{leb}
+
+-- the kinds: plain is 0, weighed is 1
+abbrev pub plainKind : ℕ
+plainKind = 0
+
+abbrev pub weighedKind : ℕ
+weighedKind = 1
+
+-- the largest capacity, 2^63 - 1
+abbrev pub mostCapacity : ℕ
+mostCapacity = 9223372036854775807
+
+-- the largest slot count
+abbrev pub mostSlots : ℕ
+mostSlots = 4096
+
+-- the number that stands for no slot
+abbrev pub noneMark : ℕ
+noneMark = 4294967295
+
+-- the next link of a slot that holds no entry
+abbrev pub unusedMark : ℕ
+unusedMark = 4294967294
+
+-- a capacity is from 1 to the largest
+abbrev pub capacityOk : ℕ → Bool
+capacityOk c = leb 1 c && leb c mostCapacity
+
+-- opening allows the two kinds, a capacity, and from 1 to the largest count of slots
+abbrev pub allowed : ℕ → ℕ → ℕ → Bool
+allowed kind capacity slots = leb kind weighedKind && (capacityOk capacity && (leb 1 slots && leb slots mostSlots))

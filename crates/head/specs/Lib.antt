@@ -1,0 +1,4 @@
+pub mod Bounds
+pub mod Fresh
+pub mod Refusals
+pub mod Rules

@@ -1,0 +1,10 @@
+pub mod Lists
+pub mod Desk
+pub mod Slots
+pub mod Moves
+pub mod Calls
+pub mod Perform
+pub mod Codes
+pub mod Runs
+pub mod Examples
+pub mod Laws

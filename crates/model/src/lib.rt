@@ -1,0 +1,1 @@
+// The crate is its specs: what every call answers and leaves.
