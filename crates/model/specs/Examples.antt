@@ -1,35 +1,201 @@
--- The shed's examples that document 01 marks with *, computed over the definitions.
+-- The shed's examples that document 01 marks with *, computed over the definitions: one table, a line for each.
 -- Assumes nothing.
-use Prim.Native.Nat.{ℕ}
+use Prim.Native.Nat.{ℕ, _*_}
 use mathlib.Core.Path.{_≡_, refl}
 use mathlib.Core.Bool.{Bool, true, false}
-use mathlib.Core.List.{List, [], _∷_}
+use mathlib.Core.List.{List, [], _∷_, _++_}
 use Rattle.head.specs.declared.Row.{Row}
 use Rattle.head.specs.declared.Answer.{Answer}
-use Rattle.head.specs.declared.Answer.the-variants.{No, New, Was, Is, Now, Absent, Entry, Done, Count, Flag}
-use Rattle.head.specs.declared.Refusal.the-variants.{TooHeavy, NoSlot, TooFewRows, OverCeiling}
+use Rattle.head.specs.declared.Answer.the-variants.{No, New, Was, Is, Now, Entry, Done, Count, Flag}
+use Rattle.head.specs.declared.Refusal.the-variants.{TooHeavy, NoSlot, OverCeiling}
 use Rattle.head.specs.declared.Command.{Command}
-use Rattle.head.specs.declared.Command.the-variants.{Len, Weight, IsFull, Peek, Get, Pop, Put, PutWithWeight, Resize, TryPutOrModify}
-use Rattle.model.specs.Desk.{plain, weighed, entry}
+use Rattle.head.specs.declared.Command.the-variants.{Len, Weight, IsFull, Front, Peek, Get, Pop, Put, PutWithWeight, Resize, TryPutOrModify}
+use Rattle.model.specs.Desk.{Kind, plain, weighed, entry}
 use Rattle.model.specs.Perform.{Cache, Outcome, fresh, verdict, perform}
 
--- a run of commands, each with 8 rows lent: the answers, the rows handed out, and what is left
+-- what a run shows: its answers, the rows it handed out, and the order, slots and stack that it leaves
 pub record Shown : Type 0 where
   pub answers : List Answer
   pub rows : List Row
-  pub entries : List Row
+  pub order : List Row
   pub slots : List ℕ
   pub stack : List ℕ
 
-abbrev pub play : Cache → List Command → List Answer
-unfolding perform verdict
-play c [] = []
-play c (m ∷ ms) = perform m 8 c .answer ∷ play (perform m 8 c .left) ms
+-- what is left, before any call
+abbrev resting : Cache → Shown
+resting c = record { answers = []; rows = []; order = c .desk .entries; slots = c .slots .order; stack = c .slots .free }
 
--- put of a code alone
-abbrev pub put : ℕ → Command
-put c = Put (record { 0 = c }) 0 0
+-- a call's answer and rows in front of what the rest of the run shows
+abbrev then : Outcome → Shown → Shown
+then o s = record {
+  answers = o .answer ∷ s .answers;
+  rows = o .rows ++ s .rows;
+  order = s .order;
+  slots = s .slots;
+  stack = s .stack;
+}
 
-A : play (fresh plain 2 2) (put 1 ∷ put 2 ∷ put 3 ∷ []) ≡ New 0 ∷ New 0 ∷ New 1 ∷ []
+-- a run on a cache, each call with 8 rows lent
+abbrev play : Cache → List Command → Shown
+play c [] = resting c
+play c (m ∷ ms) = then (perform m 8 c) (play (perform m 8 c .left) ms)
+
+-- a run from opening
+abbrev day : Kind → ℕ → ℕ → List Command → Shown
+day k c n ms = play (fresh k c n) ms
+
+-- the commands and entries of the table; a value is ten times its code, a stamp 0, unless it is given
+abbrev put : ℕ → Command
+put c = Put (record { 0 = c }) 0 (10 * c)
+
+abbrev putStamped : ℕ → ℕ → ℕ → Command
+putStamped c s v = Put (record { 0 = c }) s v
+
+abbrev putw : ℕ → ℕ → ℕ → ℕ → Command
+putw c s v w = PutWithWeight (record { 0 = c }) s v w
+
+abbrev get : ℕ → Command
+get c = Get (record { 0 = c })
+
+abbrev peek : ℕ → Command
+peek c = Peek (record { 0 = c })
+
+abbrev pop : ℕ → Command
+pop c = Pop (record { 0 = c })
+
+abbrev row : ℕ → Row
+row c = entry c 0 (10 * c) 0
+
+A : day plain 2 2 (put 1 ∷ put 2 ∷ put 3 ∷ []) ≡ record {
+  answers = New 0 ∷ New 0 ∷ New 1 ∷ [];
+  rows = row 1 ∷ [];
+  order = row 3 ∷ row 2 ∷ [];
+  slots = 0 ∷ 1 ∷ [];
+  stack = [];
+}
 unfolding perform verdict
 A = refl
+
+B : day plain 2 2 (put 1 ∷ put 2 ∷ get 1 ∷ put 3 ∷ []) ≡ record {
+  answers = New 0 ∷ New 0 ∷ Is 10 ∷ New 1 ∷ [];
+  rows = row 2 ∷ [];
+  order = row 3 ∷ row 1 ∷ [];
+  slots = 1 ∷ 0 ∷ [];
+  stack = [];
+}
+unfolding perform verdict
+B = refl
+
+C : day plain 2 2 (put 1 ∷ put 2 ∷ peek 1 ∷ put 3 ∷ []) ≡ record {
+  answers = New 0 ∷ New 0 ∷ Is 10 ∷ New 1 ∷ [];
+  rows = row 1 ∷ [];
+  order = row 3 ∷ row 2 ∷ [];
+  slots = 0 ∷ 1 ∷ [];
+  stack = [];
+}
+unfolding perform verdict
+C = refl
+
+D : day plain 2 2 (putStamped 1 7 10 ∷ putStamped 1 8 11 ∷ Front ∷ putw 1 8 12 0 ∷ Front ∷ []) ≡ record {
+  answers = New 0 ∷ Was 10 0 ∷ Entry (entry 1 7 11 0) ∷ Was 11 0 ∷ Entry (entry 1 8 12 0) ∷ [];
+  rows = [];
+  order = entry 1 8 12 0 ∷ [];
+  slots = 0 ∷ [];
+  stack = [];
+}
+unfolding perform verdict
+D = refl
+
+-- codes 1 and 2 of E, F and H
+abbrev loads : List Command → List Command
+loads ms = putw 1 7 100 3 ∷ putw 2 7 200 4 ∷ ms
+
+E : day weighed 10 4 (loads (putw 3 7 300 1 ∷ Len ∷ Weight ∷ [])) ≡ record {
+  answers = New 0 ∷ New 0 ∷ New 1 ∷ Count 2 ∷ Count 5 ∷ [];
+  rows = entry 1 7 100 3 ∷ [];
+  order = entry 3 7 300 1 ∷ entry 2 7 200 4 ∷ [];
+  slots = 0 ∷ 1 ∷ [];
+  stack = [];
+}
+unfolding perform verdict
+E = refl
+
+F : day weighed 10 4 (loads (putw 1 8 101 5 ∷ [])) ≡ record {
+  answers = New 0 ∷ New 0 ∷ Was 100 1 ∷ [];
+  rows = entry 2 7 200 4 ∷ [];
+  order = entry 1 8 101 5 ∷ [];
+  slots = 1 ∷ [];
+  stack = 0 ∷ [];
+}
+unfolding perform verdict
+F = refl
+
+G : day weighed 10 4 (putw 1 0 10 10 ∷ putw 2 0 20 0 ∷ putw 3 0 30 9 ∷ IsFull ∷ []) ≡ record {
+  answers = No TooHeavy ∷ New 0 ∷ New 1 ∷ Flag true ∷ [];
+  rows = row 2 ∷ [];
+  order = entry 3 0 30 9 ∷ [];
+  slots = 0 ∷ [];
+  stack = [];
+}
+unfolding perform verdict
+G = refl
+
+G-one : day weighed 1 4 (putw 1 0 10 1 ∷ putw 1 0 10 0 ∷ []) ≡ record {
+  answers = No TooHeavy ∷ New 0 ∷ [];
+  rows = [];
+  order = row 1 ∷ [];
+  slots = 0 ∷ [];
+  stack = [];
+}
+unfolding perform verdict
+G-one = refl
+
+H : day weighed 10 4 (loads (Resize 9 ∷ Resize 8 ∷ [])) ≡ record {
+  answers = New 0 ∷ New 0 ∷ Done 0 ∷ Done 1 ∷ [];
+  rows = entry 1 7 100 3 ∷ [];
+  order = entry 2 7 200 4 ∷ [];
+  slots = 0 ∷ [];
+  stack = 1 ∷ [];
+}
+unfolding perform verdict
+H = refl
+
+I : day plain 3 8 (put 10 ∷ put 20 ∷ put 30 ∷ pop 10 ∷ Resize 5 ∷ []) ≡ record {
+  answers = New 0 ∷ New 0 ∷ New 0 ∷ Was 100 0 ∷ Done 0 ∷ [];
+  rows = [];
+  order = row 30 ∷ row 20 ∷ [];
+  slots = 2 ∷ 1 ∷ [];
+  stack = 0 ∷ [];
+}
+unfolding perform verdict
+I = refl
+
+J : day plain 4 4 (put 10 ∷ put 20 ∷ put 30 ∷ pop 20 ∷ Resize 3 ∷ []) ≡ record {
+  answers = New 0 ∷ New 0 ∷ New 0 ∷ Was 200 0 ∷ Done 0 ∷ [];
+  rows = [];
+  order = row 30 ∷ row 10 ∷ [];
+  slots = 0 ∷ 1 ∷ [];
+  stack = 2 ∷ [];
+}
+unfolding perform verdict
+J = refl
+
+K : day plain 2 2 (putStamped 1 0 40 ∷ put 2 ∷ TryPutOrModify (record { 0 = 1 }) 0 20 50 ∷ []) ≡ record {
+  answers = New 0 ∷ New 0 ∷ No OverCeiling ∷ [];
+  rows = [];
+  order = entry 1 0 40 0 ∷ row 2 ∷ [];
+  slots = 0 ∷ 1 ∷ [];
+  stack = [];
+}
+unfolding perform verdict
+K = refl
+
+L : day plain 5 2 (put 1 ∷ put 2 ∷ put 3 ∷ put 2 ∷ []) ≡ record {
+  answers = New 0 ∷ New 0 ∷ No NoSlot ∷ Was 20 0 ∷ [];
+  rows = [];
+  order = row 2 ∷ row 1 ∷ [];
+  slots = 1 ∷ 0 ∷ [];
+  stack = [];
+}
+unfolding perform verdict
+L = refl
