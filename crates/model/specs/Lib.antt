@@ -7,4 +7,4 @@ pub mod Perform
 pub mod Codes
 pub mod Runs
 pub mod Examples
-pub mod Laws
+pub mod Claims

@@ -23,9 +23,10 @@ use Rattle.model.specs.Moves.{Move, stay, raise, set, renew, drop, place
 use Rattle.model.specs.Calls.{Verdict, saying, refuse, onPlain, admit, pushing, beside, exchange, wrongWeight, sum64, putOrModifyCall}
 use Rattle.model.specs.Perform.{Cache, Outcome, fresh, verdict, handed, perform}
 use Rattle.model.specs.Runs.{Call, step, after}
-use Rattle.model.specs.Laws.Cases.{split, both}
-use Rattle.model.specs.Laws.Backs.{length-butLast}
-use Rattle.model.specs.Laws.Eviction.{spent, weighs-take, enough, pushing-leaves}
+use Rattle.model.specs.Claims.{spent}
+use Rattle.model.proofs.Cases.{split, both}
+use Rattle.model.proofs.Backs.{length-butLast}
+use Rattle.model.proofs.Eviction.{weighs-take, enough, pushing-leaves}
 
 -- the bounds of opening, live + weight ≤ C, live ≤ N, and no weight on a plain cache
 pub record Bounded (d : Desk) : Type 0 where

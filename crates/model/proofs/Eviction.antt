@@ -12,22 +12,9 @@ use Rattle.head.specs.declared.Row.{Row}
 use Rattle.model.specs.Lists.{butLast, oldest}
 use Rattle.model.specs.Desk.{Desk, live, weighs, cost, fitting, leaving}
 use Rattle.model.specs.Calls.{pushing}
-use Rattle.model.specs.Laws.Cases.{split}
-use Rattle.model.specs.Laws.Backs.{length-butLast, butLast-back, oldest-back, butLast-none, oldest-none, Back, back-of}
-
--- what entries take of the capacity: live + weight
-abbrev pub spent : List Row → ℕ
-spent es = length es + weighs es
-
--- 01's loop, at most n turns: the back is dropped while the test holds. What is left of the entries
-abbrev pub remaining : (List Row → Bool) → ℕ → List Row → List Row
-remaining over zero es = es
-remaining over (suc n) es = cond (over es) (remaining over n (butLast 1 es)) es
-
--- and what was dropped, in that order
-abbrev pub dropped : (List Row → Bool) → ℕ → List Row → List Row
-dropped over zero es = []
-dropped over (suc n) es = cond (over es) (oldest 1 es ++ dropped over n (butLast 1 es)) []
+use Rattle.model.specs.Claims.{spent, remaining, dropped, Looped}
+use Rattle.model.proofs.Cases.{split}
+use Rattle.model.proofs.Backs.{length-butLast, butLast-back, oldest-back, butLast-none, oldest-none, Back, back-of}
 
 pub fitting-le : (b : ℕ) (es : List Row) → fitting b es ≤ length es
 fitting-le b [] = omega arith
@@ -115,11 +102,6 @@ one-more b es h =
     let f = not-all b es h in
     let t = fitting-take b (length es - 1) es (omega arith) in
     omega (arith, length-butLast 1 es)
-
--- what the loop leaves and drops is what the budget leaves and drops
-pub record Looped (b n : ℕ) (over : List Row → Bool) (es : List Row) : Type 0 where
-  pub left : remaining over n es ≡ butLast (leaving b es) es
-  pub out : dropped over n es ≡ oldest (leaving b es) es
 
 module _ (b : ℕ) (over : List Row → Bool) (same : (es : List Row) → over es ≡ ltb b (spent es)) where
   -- all fit

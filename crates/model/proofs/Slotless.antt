@@ -17,15 +17,11 @@ use Rattle.model.specs.Desk.{Kind, plain, Desk, Found, absent, find, liv
 use Rattle.model.specs.Slots.{Slots, taken, topAfter, pushed, evicted}
 use Rattle.model.specs.Calls.{Verdict, pushing}
 use Rattle.model.specs.Perform.{Cache, Outcome, verdict, perform}
-use Rattle.model.specs.Laws.Cases.{and-no}
-use Rattle.model.specs.Laws.Backs.{length-oldest, butLast-back, oldest-back, butLast-none, oldest-none}
+use Rattle.model.specs.Claims.{Alike}
+use Rattle.model.proofs.Cases.{and-no}
+use Rattle.model.proofs.Backs.{length-oldest, butLast-back, oldest-back, butLast-none, oldest-none}
 
--- two outcomes that differ in slots at most
-pub record Alike (o p : Outcome) : Type 0 where
-  pub answer : o .answer ≡ p .answer
-  pub rows : o .rows ≡ p .rows
-  pub desk : o .left .desk ≡ p .left .desk
-
+-- entries, answers and rows come from the desk alone
 pub slotless : (m : Command) (lent : ℕ) (c d : Cache) → c .desk ≡ d .desk → Alike (perform m lent c) (perform m lent d)
 unfolding perform
 slotless m lent c d h = record { answer = rw h; rows = rw h; desk = rw h }
