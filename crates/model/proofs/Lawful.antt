@@ -1,4 +1,4 @@
--- What holds of every cache from opening on: the bounds, live + weight ≤ C, live ≤ N, weights 0 on a plain cache.
+-- Every cache from opening on is lawful: the bounds, distinct codes, live + weight ≤ C, live ≤ N, weights 0 on a plain cache.
 -- Assumes nothing.
 use Prim.Native.Nat.{ℕ, zero, suc, _+_, _-_, _≤_, _<_}
 use mathlib.Core.Bool.{Bool, true, false, cond, not, _&&_}
@@ -23,16 +23,20 @@ use Rattle.model.specs.Moves.{Move, stay, raise, set, renew, drop, place
 use Rattle.model.specs.Calls.{Verdict, saying, refuse, onPlain, admit, pushing, beside, exchange, wrongWeight, sum64, putOrModifyCall}
 use Rattle.model.specs.Perform.{Cache, Outcome, fresh, verdict, handed, perform}
 use Rattle.model.specs.Runs.{Call, step, after}
-use Rattle.model.specs.Claims.{spent}
+use Rattle.model.specs.Codes.{codesOf, Distinct}
+use Rattle.model.specs.Claims.{spent, Lawful}
 use Rattle.model.proofs.Cases.{split, both}
+use Rattle.model.proofs.Verdicts.{on-test, on-found, on-plain, on-lent}
+use Rattle.model.proofs.Counting.{sized, weighing, of-without, of-toFront, of-cut, of-marked, length-marks, find-present}
 use Rattle.model.proofs.Backs.{length-butLast}
-use Rattle.model.proofs.Eviction.{weighs-take, enough, pushing-leaves}
+use Rattle.model.proofs.Tally.{distinct-step}
+use Rattle.model.proofs.Eviction.{enough, pushing-leaves}
 
--- the bounds of opening, live + weight ≤ C, live ≤ N, and no weight on a plain cache
-pub record Bounded (d : Desk) : Type 0 where
+-- all of `Lawful` but the codes
+record Bounded (d : Desk) : Type 0 where
   pub capacity : (1 ≤ d .capacity) × (d .capacity ≤ mostCapacity)
   pub room : (1 ≤ d .room) × (d .room ≤ mostSlots)
-  pub within : live d + weighs (d .entries) ≤ d .capacity
+  pub within : spent (d .entries) ≤ d .capacity
   pub roomy : live d ≤ d .room
   pub light : d .kind ≡ plain → weighs (d .entries) ≡ 0
 
@@ -42,28 +46,19 @@ record NoMore (es fs : List Row) : Type 0 where
   pub shorter : length es ≤ length fs
   pub lighter : weighs es ≤ weighs fs
 
-weighs-append : (es fs : List Row) → weighs (es ++ fs) ≡ weighs es + weighs fs
-weighs-append [] fs = omega arith
-weighs-append (e ∷ es) fs = let r = weighs-append es fs in omega arith
-
--- an entry taken out, with the rest, is the whole
-weighs-out : (i : ℕ) (es : List Row) → weighs (only i es) + weighs (without i es) ≡ weighs es
-weighs-out i [] = refl
-weighs-out zero (e ∷ es) = omega arith
-weighs-out (suc i) (e ∷ es) = let r = weighs-out i es in omega arith
-
-length-out : (i : ℕ) (es : List Row) → length (only i es) + length (without i es) ≡ length es
-length-out i [] = refl
-length-out zero (e ∷ es) = omega arith
-length-out (suc i) (e ∷ es) = let r = length-out i es in omega arith
-
 no-more-out : (i : ℕ) (es : List Row) → NoMore (without i es) es
-no-more-out i es = record { shorter = omega (arith, length-out i es); lighter = omega (arith, weighs-out i es) }
+no-more-out i es = record { shorter = omega (arith, of-without sized i es); lighter = omega (arith, of-without weighing i es) }
 
 no-more-raised : (i : ℕ) (es : List Row) → NoMore (toFront i es) es
-no-more-raised i es = record {
-  shorter = omega (arith, length-append (only i es) (without i es), length-out i es);
-  lighter = omega (arith, weighs-append (only i es) (without i es), weighs-out i es);
+no-more-raised i es = record { shorter = omega (arith, of-toFront sized i es); lighter = omega (arith, of-toFront weighing i es) }
+
+no-more-cut : (k : ℕ) (es : List Row) → NoMore (butLast k es) es
+no-more-cut k es = record { shorter = omega (arith, of-cut sized k es); lighter = omega (arith, of-cut weighing k es) }
+
+no-more-swept : (q : Rule) (es : List Row) → NoMore (marked (marks q es) es) es
+no-more-swept q es = record {
+  shorter = omega (arith, of-marked sized (marks q es) es (length-marks q es));
+  lighter = omega (arith, of-marked weighing (marks q es) es (length-marks q es));
 }
 
 no-more-revalued : (i v : ℕ) (es : List Row) → NoMore (revalued i v es) es
@@ -72,19 +67,6 @@ no-more-revalued zero v (e ∷ es) = record { shorter = omega arith; lighter = o
 no-more-revalued (suc i) v (e ∷ es) =
     let r = no-more-revalued i v es in
     record { shorter = omega arith; lighter = omega arith }
-
-no-more-marked : (bs : List Bool) (es : List Row) → NoMore (marked bs es) es
-no-more-marked [] es = record { shorter = omega arith; lighter = omega arith }
-no-more-marked (b ∷ bs) [] = record { shorter = omega arith; lighter = omega arith }
-no-more-marked (true ∷ bs) (e ∷ es) =
-    let r = no-more-marked bs es in
-    record { shorter = omega arith; lighter = omega arith }
-no-more-marked (false ∷ bs) (e ∷ es) =
-    let r = no-more-marked bs es in
-    record { shorter = omega arith; lighter = omega arith }
-
-no-more-cut : (k : ℕ) (es : List Row) → NoMore (butLast k es) es
-no-more-cut k es = record { shorter = omega (arith, length-butLast k es); lighter = weighs-take (length es - k) es }
 
 no-more-trans : {es fs gs : List Row} → NoMore es fs → NoMore fs gs → NoMore es gs
 no-more-trans a b = record { shorter = omega arith; lighter = omega arith }
@@ -153,24 +135,10 @@ module _ (d : Desk) (b : Bounded d) where
         roomy = omega arith;
         light = λ q. omega (arith, b .light q);
       }
-  moved (sweep q) p = holds-less (marked (marks q (d .entries)) (d .entries)) (no-more-marked (marks q (d .entries)) (d .entries))
+  moved (sweep q) p = holds-less (marked (marks q (d .entries)) (d .entries)) (no-more-swept q (d .entries))
   moved clear p = holds-less [] (record { shorter = omega arith; lighter = omega arith })
 
--- ---- verdicts, by cases
-
--- what holds of a verdict in each case of a test, of a find and of the kind
-pub on-test : (P : Verdict → Type 0) (t : Bool) {v w : Verdict} → (t ≡ true → P v) → (t ≡ false → P w) → P (cond t v w)
-on-test P true f g = f refl
-on-test P false f g = g refl
-
-pub on-found : (P : Verdict → Type 0) (f : Found) {v : Verdict} {g : ℕ → Row → Verdict} → (f ≡ absent → P v)
-    → ((i : ℕ) (e : Row) → f ≡ present i e → P (g i e)) → P (onFound f v g)
-on-found P absent h k = h refl
-on-found P (present i e) h k = k i e refl
-
-pub on-plain : (P : Verdict → Type 0) (k : Kind) {v : Verdict} → (k ≡ plain → P v) → P (refuse WrongKind) → P (onPlain k v)
-on-plain P plain f g = f refl
-on-plain P weighed f g = g
+-- ---- verdicts
 
 -- what the test of a capacity says
 capacity-in : (c : ℕ) → capacityOk c ≡ true → (1 ≤ c) × (c ≤ mostCapacity)
@@ -178,25 +146,9 @@ capacity-in c t =
     let h = both (leb 1 c) (leb c mostCapacity) t in
     (leb-true 1 c (h .0), leb-true c mostCapacity (h .1))
 
--- a found place is in the list
-found-in : (c : ℕ) (es : List Row) (i : ℕ) (e : Row) → find c es ≡ present i e → i < length es
-found-in c [] i e h = absurd (apart h)
-  where
-    apart : absent ≡ present i e → ⊥
-    apart q = let z : _≡_ {A = ℕ} 0 1 = cc in omega arith
-found-in c (x ∷ es) i e h =
-    split (eqb (x .code .0) c)
-    (λ t. let q : present 0 x ≡ present i e = rw t at h in let z : 0 ≡ i = cc in omega arith)
-    (λ t. behind (find c es) (λ j y g. found-in c es j y g) (rw t at h))
-  where
-    behind : (f : Found) → ((j : ℕ) (y : Row) → f ≡ present j y → j < length es) → further f ≡ present i e → i < suc (length es)
-    behind absent r q = let z : _≡_ {A = ℕ} 0 1 = cc in absurd (omega arith)
-    behind (present j y) r q = let z : suc j ≡ i = cc in omega (arith, r j y refl)
-
-without-one : (i : ℕ) (es : List Row) → i < length es → suc (length (without i es)) ≡ length es
-without-one i [] h = absurd (omega arith)
-without-one zero (e ∷ es) h = refl
-without-one (suc i) (e ∷ es) h = ap suc (without-one i es (omega arith))
+-- without a found entry there is one entry less
+without-found : (c : ℕ) (es : List Row) {i : ℕ} {e : Row} → find c es ≡ present i e → suc (length (without i es)) ≡ length es
+without-found c es {i} h = omega (arith, of-without sized i es, ap length (find-present c es h .0))
 
 module _ (d : Desk) (b : Bounded d) where
   Fine : Verdict → Type 0
@@ -230,7 +182,7 @@ module _ (d : Desk) (b : Bounded d) where
   exchange-fine c i old e f w p =
       let rest : List Row = without i (d .entries) in
       let k : ℕ = leaving (beside (e .weight) d) rest in
-      let n = without-one i (d .entries) (found-in c (d .entries) i old f) in
+      let n = without-found c (d .entries) f in
       record {
         within = omega (arith, enough (beside (e .weight) d) rest);
         roomy = omega (arith, length-butLast k rest, b .roomy);
@@ -240,12 +192,11 @@ module _ (d : Desk) (b : Bounded d) where
   modify-fine : (c s n : ℕ) → Fine (putOrModifyCall c s n d)
   unfolding Fine
   modify-fine c s n =
-      on-plain Fine (d .kind)
+      on-plain Fine (d .kind) tt
       (λ p.
       on-found Fine (find c (d .entries))
       (λ f. put-fine (entry c s n 0) (Now n true (pushing d)) p refl)
       (λ i e f. tt))
-      tt
 
   verdict-fine : (m : Command) → Fine (verdict m d)
   unfolding Fine verdict
@@ -265,12 +216,11 @@ module _ (d : Desk) (b : Bounded d) where
   verdict-fine PopFront = on-found Fine (first (d .entries)) (λ f. tt) (λ i e f. tt)
   verdict-fine PopBack = on-found Fine (last (d .entries)) (λ f. tt) (λ i e f. tt)
   verdict-fine (Put c s v) =
-      on-plain Fine (d .kind)
+      on-plain Fine (d .kind) tt
       (λ p.
       on-found Fine (find (c .0) (d .entries))
       (λ f. put-fine (entry (c .0) s v 0) (New (pushing d)) p refl)
       (λ i e f. tt))
-      tt
   verdict-fine (PutWithWeight c s v w) =
       on-test Fine (wrongWeight (d .kind) w) (λ t. tt)
       (λ t.
@@ -293,34 +243,29 @@ module _ (d : Desk) (b : Bounded d) where
       (λ t. tt)
   verdict-fine (PutOrModify c s n) = modify-fine (c .0) s n
   verdict-fine (TryPutOrModify c s n most) =
-      on-plain Fine (d .kind)
+      on-plain Fine (d .kind) tt
       (λ p.
       on-found Fine (find (c .0) (d .entries))
       (λ f. on-test Fine (ltb most n) (λ t. tt) (λ t. modify-fine (c .0) s n))
       (λ i e f. on-test Fine (ltb most (e .value + n)) (λ t. tt) (λ t. modify-fine (c .0) s n)))
-      tt
   verdict-fine (GetMut c v) =
-      on-plain Fine (d .kind) (λ p. on-found Fine (find (c .0) (d .entries)) (λ f. tt) (λ i e f. tt)) tt
+      on-plain Fine (d .kind) tt (λ p. on-found Fine (find (c .0) (d .entries)) (λ f. tt) (λ i e f. tt))
   verdict-fine (PeekMut c v) =
-      on-plain Fine (d .kind) (λ p. on-found Fine (find (c .0) (d .entries)) (λ f. tt) (λ i e f. tt)) tt
+      on-plain Fine (d .kind) tt (λ p. on-found Fine (find (c .0) (d .entries)) (λ f. tt) (λ i e f. tt))
   verdict-fine (FrontMut v) =
-      on-plain Fine (d .kind) (λ p. on-found Fine (first (d .entries)) (λ f. tt) (λ i e f. tt)) tt
+      on-plain Fine (d .kind) tt (λ p. on-found Fine (first (d .entries)) (λ f. tt) (λ i e f. tt))
   verdict-fine (BackMut v) =
-      on-plain Fine (d .kind) (λ p. on-found Fine (last (d .entries)) (λ f. tt) (λ i e f. tt)) tt
+      on-plain Fine (d .kind) tt (λ p. on-found Fine (last (d .entries)) (λ f. tt) (λ i e f. tt))
 
-  handed-fine : (lent : ℕ) (v : Verdict) → Fine v → Fine (handed lent v)
-  unfolding Fine
-  handed-fine lent v p = on-test Fine (leb (length (v .rows)) lent) (λ t. p) (λ t. tt)
-
-pub bounded-step : (a : Call) (c : Cache) → Bounded (c .desk) → Bounded (step a c .left .desk)
+bounded-step : (a : Call) (c : Cache) → Bounded (c .desk) → Bounded (step a c .left .desk)
 unfolding perform Fine
 bounded-step a c b =
     let v : Verdict = handed (a .lent) (verdict (a .command) (c .desk)) in
     moved (c .desk) b (v .move)
-    (handed-fine (c .desk) b (a .lent) (verdict (a .command) (c .desk)) (verdict-fine (c .desk) b (a .command)))
+    (on-lent (Fine (c .desk) b) (a .lent) (verdict (a .command) (c .desk)) tt (verdict-fine (c .desk) b (a .command)))
 
--- every cache that opening gives is so
-pub bounded-fresh : (kind c n : ℕ) → allowed kind c n ≡ true → Bounded (fresh (kindOf kind) c n .desk)
+-- the numbers that opening allows
+bounded-fresh : (kind c n : ℕ) → allowed kind c n ≡ true → Bounded (fresh (kindOf kind) c n .desk)
 bounded-fresh kind c n h =
     let p = both (leb kind weighedKind) (capacityOk c && (leb 1 n && leb n mostSlots)) h in
     let q = both (capacityOk c) (leb 1 n && leb n mostSlots) (p .1) in
@@ -332,3 +277,28 @@ bounded-fresh kind c n h =
       roomy = omega arith;
       light = λ k. refl;
     }
+
+lawful : (d : Desk) → Bounded d → Distinct (codesOf (d .entries)) → Lawful d
+lawful d b u = record {
+  capacity = b .capacity;
+  room = b .room;
+  distinct = u;
+  within = b .within;
+  roomy = b .roomy;
+  light = b .light;
+}
+
+-- every cache that opening gives is lawful
+pub fresh-lawful : (kind c n : ℕ) → allowed kind c n ≡ true → Lawful (fresh (kindOf kind) c n .desk)
+fresh-lawful kind c n h = lawful (fresh (kindOf kind) c n .desk) (bounded-fresh kind c n h) (λ x. omega arith)
+
+-- and every call leaves a lawful cache lawful
+pub step-lawful : (a : Call) (c : Cache) → Lawful (c .desk) → Lawful (step a c .left .desk)
+step-lawful a c l =
+    lawful (step a c .left .desk)
+    (bounded-step a c (record { capacity = l .capacity; room = l .room; within = l .within; roomy = l .roomy; light = l .light }))
+    (distinct-step a c (l .distinct))
+
+pub after-lawful : (c : Cache) (as′ : List Call) → Lawful (c .desk) → Lawful (after c as′ .desk)
+after-lawful c [] l = l
+after-lawful c (a ∷ as′) l = after-lawful (step a c .left) as′ (step-lawful a c l)
