@@ -930,19 +930,19 @@ where
     }
 }
 
-struct Session {
+struct Opened {
     cache: Subject,
     state: State,
 }
 
-impl Session {
+impl Opened {
     fn open(opening: Opening) -> Self {
         let cache = Subject::open(opening);
         let state = cache.state();
-        Session { cache, state }
+        Opened { cache, state }
     }
 
-    /// The reply, or the message of the crate's panic. After a panic the session is spent.
+    /// The reply, or the message of the crate's panic. After a panic the cache is spent.
     fn call(&mut self, command: &Command) -> Result<Reply, String> {
         DROPPED.with_borrow_mut(Vec::clear);
         INSIDE_CRATE.set(true);
@@ -1281,7 +1281,7 @@ impl Model {
 
 /// The crate and the model side by side.
 struct Pair {
-    session: Session,
+    opened: Opened,
     model: Model,
 }
 
@@ -1298,18 +1298,18 @@ enum Step {
 impl Pair {
     fn open(opening: Opening) -> Self {
         Pair {
-            session: Session::open(opening),
+            opened: Opened::open(opening),
             model: Model::open(opening),
         }
     }
 
     fn state(&self) -> &State {
-        &self.session.state
+        &self.opened.state
     }
 
     fn step(&mut self, command: &Command) -> Step {
         let foretold = self.state().foretells_panic(command);
-        let reply = match self.session.call(command) {
+        let reply = match self.opened.call(command) {
             Ok(reply) => reply,
             Err(message) => return Step::Panicked { message, foretold },
         };

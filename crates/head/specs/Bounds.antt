@@ -4,10 +4,11 @@ use Prim.Native.Nat.{ℕ, _-_, _^_}
 use mathlib.Core.Bool.{Bool, true, false, _&&_}
 use lib.Dec.{leb}
 
--- the kinds: plain is 0, weighed is 1
+-- the number of the plain kind
 abbrev pub plainKind : ℕ
 plainKind = 0
 
+-- the number of the weighed kind
 abbrev pub weighedKind : ℕ
 weighedKind = 1
 

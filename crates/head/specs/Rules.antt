@@ -5,16 +5,19 @@ use mathlib.Core.Bool.{Bool, true, false}
 use lib.Dec.{ltb}
 use Rattle.head.specs.declared.Rule.{Rule}
 
--- the code in a range, the value in a range, the stamp at least, the weight at most
+-- the rule that the code is in a range
 abbrev pub codeRule : ℕ
 codeRule = 0
 
+-- the rule that the value is in a range
 abbrev pub valueRule : ℕ
 valueRule = 1
 
+-- the rule that the stamp is at least the low bound
 abbrev pub stampRule : ℕ
 stampRule = 2
 
+-- the rule that the weight is at most the high bound
 abbrev pub weightRule : ℕ
 weightRule = 3
 

@@ -10,6 +10,7 @@ use Rattle.model.specs.Lists.{without, toFront, butLast, marked, others}
 use Rattle.model.specs.Desk.{Desk, revalued, marks}
 use Rattle.model.specs.Slots.{Slots, pushed, released, evicted, raised, compacted, unused}
 
+-- what a call does to a cache
 pub data Move : Type 0 where
   -- nothing changes
   stay : Move

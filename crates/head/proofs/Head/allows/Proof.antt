@@ -2,15 +2,9 @@
 -- Assumes nothing.
 use borrow.Author.Tests.{lt-leb, le-leb}
 use native.Mathlib.Omega.{arith}
-use Prim.Native.Nat.{_≤_, _<_}
-use mathlib.Core.Path.{_≡_}
-use mathlib.Core.Bool.{true, false}
-use lib.Dec.{leb}
-use Rattle.head.specs.Bounds.{mostCapacity}
+use Prim.Native.Nat.{_≤_}
 use Rattle.head.proofs.Head.allows.Statement.{statement}
 use Rattle.head.proofs.Head.allows.Tie as tie
-use Rattle.head.proofs.Head.allows.Reads as reads
-use Rattle.head.proofs.Head.allows.Lts as lts
 
 returns : tie.Need-returns
 returns c = simp (lt-leb _ _ (c .if1 .taken))
