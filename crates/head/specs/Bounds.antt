@@ -1,7 +1,7 @@
 -- The bounds and the marks of document 01, and what opening allows.
 -- Assumes nothing.
-use Prim.Native.Nat.{ℕ, _-_, _^_}
-use mathlib.Core.Bool.{Bool, true, false, _&&_}
+use Prim.Native.Nat.{ℕ}
+use mathlib.Core.Bool.{Bool, _&&_}
 use lib.Dec.{leb}
 
 -- the number of the plain kind

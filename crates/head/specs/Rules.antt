@@ -1,8 +1,7 @@
 -- The rules of `retain` by their numbers.
 -- Assumes nothing.
 use Prim.Native.Nat.{ℕ}
-use mathlib.Core.Bool.{Bool, true, false}
-use lib.Dec.{ltb}
+use mathlib.Core.Bool.{false}
 use Rattle.head.specs.declared.Rule.{Rule}
 
 -- the rule that the code is in a range

@@ -1,13 +1,13 @@
 -- The back of a list: what `butLast` and `oldest` do to a list that ends in x, and that each list with anything in it does end so.
 -- Assumes nothing.
-use Prim.Native.Nat.{ℕ, zero, suc, _+_, _-_, _≤_, _<_}
-use mathlib.Core.List.{List, [], _∷_, _++_, reverse, append-assoc, append-nil, reverse-append}
-use mathlib.Core.Path.{_≡_, refl, sym, ap, _∙_}
+use Prim.Native.Nat.{ℕ, suc, _-_, _≤_}
+use mathlib.Core.List.{List, [], _∷_, _++_, reverse-append}
+use mathlib.Core.Path.{_≡_, refl, ap, _∙_}
 use native.Mathlib.Omega.{arith}
 use native.Mathlib.Numerals.{add-one}
-use lib.ListN.{length, take, drop, length-append, length-reverse, length-drop}
+use lib.ListN.{length, drop, length-append, length-reverse, length-drop}
 use lib.Seq.{take-append-le, drop-append-le, take-length, drop-length, length-take-le}
-use Rattle.model.specs.Lists.{without, only, butLast, oldest}
+use Rattle.model.specs.Lists.{only, butLast, oldest}
 
 pub length-butLast : {A : Type 0} (k : ℕ) (xs : List A) → length (butLast k xs) ≡ length xs - k
 length-butLast k xs = length-take-le (length xs - k) xs (omega arith)

@@ -1,20 +1,20 @@
 -- Eviction: the number that leaves by the budget is the number that document 01's loop from the back drops, it is enough, and one fewer is not.
 -- Assumes nothing.
 use Prim.Native.Nat.{ℕ, zero, suc, _+_, _-_, _≤_, _<_}
-use mathlib.Core.Bool.{Bool, true, false, cond}
+use mathlib.Core.Bool.{Bool, true, false}
 use mathlib.Core.List.{List, [], _∷_, _++_}
 use mathlib.Core.Path.{_≡_, refl, sym, ap, _∙_, subst}
 use native.Mathlib.Omega.{arith}
 use lib.Dec.{eqb, leb, ltb}
 use lib.ListN.{length, take, length-append}
-use borrow.Author.Tests.{leb-true, leb-false, le-leb, lt-leb, ltb-true, ltb-false, lt-ltb, le-ltb, eqb-true, eqb-false, eq-eqb, ne-eqb}
+use borrow.Author.Tests.{leb-true, leb-false, le-leb, ltb-true, ltb-false, lt-ltb, le-ltb, eqb-true, eqb-false}
 use Rattle.head.specs.declared.Row.{Row}
 use Rattle.model.specs.Lists.{butLast, oldest}
 use Rattle.model.specs.Desk.{Desk, live, weighs, cost, fitting, leaving}
 use Rattle.model.specs.Calls.{pushing}
-use Rattle.model.specs.Claims.{spent, remaining, dropped, Looped}
+use Rattle.model.specs.Claims.{spent, Looped}
 use Rattle.model.proofs.Cases.{split}
-use Rattle.model.proofs.Backs.{length-butLast, butLast-back, oldest-back, butLast-none, oldest-none, Back, back-of}
+use Rattle.model.proofs.Backs.{length-butLast, butLast-back, oldest-back, butLast-none, oldest-none, back-of}
 
 pub fitting-le : (b : ℕ) (es : List Row) → fitting b es ≤ length es
 fitting-le b [] = omega arith

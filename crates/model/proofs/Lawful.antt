@@ -1,27 +1,25 @@
 -- Every cache from opening on is lawful: the bounds, distinct codes, live + weight ≤ C, live ≤ N, weights 0 on a plain cache.
 -- Assumes nothing.
 use Prim.Native.Nat.{ℕ, zero, suc, _+_, _-_, _≤_, _<_}
-use mathlib.Core.Bool.{Bool, true, false, cond, not, _&&_}
-use mathlib.Core.List.{List, [], _∷_, _++_, reverse}
-use mathlib.Core.Path.{_≡_, refl, sym, ap, _∙_}
+use mathlib.Core.Bool.{true, false, _&&_}
+use mathlib.Core.List.{List, [], _∷_}
+use mathlib.Core.Path.{_≡_, refl, ap}
 use native.Mathlib.Omega.{arith}
 use lib.Dec.{eqb, leb, ltb}
-use lib.ListN.{length, take, length-append}
-use borrow.Author.Tests.{leb-true, leb-false, eqb-true, eqb-false, eq-eqb, not-false}
+use lib.ListN.{length}
+use borrow.Author.Tests.{leb-true, leb-false, eqb-true, eqb-false, not-false}
 use Rattle.head.specs.declared.Row.{Row}
 use Rattle.head.specs.declared.Rule.{Rule}
-use Rattle.head.specs.declared.Refusal.{Refusal}
-use Rattle.head.specs.declared.Refusal.the-variants.{WrongKind, TooHeavy, NoSlot, TooFewRows, OverCeiling, NotUnderstood}
 use Rattle.head.specs.declared.Answer.{Answer}
-use Rattle.head.specs.declared.Answer.the-variants.{No, New, Was, Is, Now, Absent, Entry, Done, Count, Flag}
+use Rattle.head.specs.declared.Answer.the-variants.{New, Now}
 use Rattle.head.specs.declared.Command.{Command}
 use Rattle.head.specs.declared.Command.the-variants.{Len, Capacity, Weight, IsEmpty, IsFull, Front, Back, Peek, Contains, List as ListFront, ListBack, Get, Pop, PopFront, PopBack, Put, PutWithWeight, Clear, Retain, Resize, PutOrModify, TryPutOrModify, GetMut, PeekMut, FrontMut, BackMut}
 use Rattle.head.specs.Bounds.{weighedKind, mostCapacity, mostSlots, capacityOk, allowed}
-use Rattle.model.specs.Lists.{without, only, toFront, butLast, oldest, marked, others}
-use Rattle.model.specs.Desk.{Kind, plain, weighed, kindOf, Desk, entry, revalued, Found, absent, present, further, find, first, last, onFound, live, weighs, cost, leaving, isRule, marks}
+use Rattle.model.specs.Lists.{without, toFront, butLast, marked}
+use Rattle.model.specs.Desk.{plain, kindOf, Desk, entry, revalued, present, find, first, last, live, weighs, cost, leaving, isRule, marks}
 use Rattle.model.specs.Moves.{Move, stay, raise, set, renew, drop, place, replace, fit, sweep, clear, holding, onDesk}
-use Rattle.model.specs.Calls.{Verdict, saying, refuse, onPlain, admit, pushing, beside, exchange, wrongWeight, sum64, putOrModifyCall}
-use Rattle.model.specs.Perform.{Cache, Outcome, fresh, verdict, handed, perform}
+use Rattle.model.specs.Calls.{Verdict, admit, pushing, beside, exchange, wrongWeight, putOrModifyCall}
+use Rattle.model.specs.Perform.{Cache, fresh, verdict, handed, perform}
 use Rattle.model.specs.Runs.{Call, step, after}
 use Rattle.model.specs.Codes.{codesOf, Distinct}
 use Rattle.model.specs.Claims.{spent, Lawful}

@@ -1,22 +1,20 @@
 -- Slots: entries, answers and rows depend on the entries alone; and `put` on a full plain cache reuses the back's slot.
 -- Assumes nothing.
-use Prim.Native.Nat.{ℕ, zero, suc, _≤_}
-use mathlib.Core.Bool.{Bool, true, false, cond}
+use Prim.Native.Nat.{ℕ, _≤_}
+use mathlib.Core.Bool.{true}
 use mathlib.Core.List.{List, [], _∷_, _++_}
-use mathlib.Core.Path.{_≡_, refl, sym, ap, _∙_}
+use mathlib.Core.Path.{_≡_, refl}
 use native.Mathlib.Omega.{arith}
 use lib.Dec.{eqb, leb}
 use lib.ListN.{length}
 use borrow.Author.Tests.{eq-eqb, le-leb}
-use Rattle.head.specs.declared.Row.{Row}
 use Rattle.head.specs.declared.Code.{Code}
 use Rattle.head.specs.declared.Command.{Command}
 use Rattle.head.specs.declared.Command.the-variants.{Put}
-use Rattle.model.specs.Lists.{butLast, oldest}
-use Rattle.model.specs.Desk.{Kind, plain, Desk, Found, absent, find, live}
-use Rattle.model.specs.Slots.{Slots, taken, topAfter, pushed, evicted}
-use Rattle.model.specs.Calls.{Verdict, pushing}
-use Rattle.model.specs.Perform.{Cache, Outcome, verdict, perform}
+use Rattle.model.specs.Lists.{oldest}
+use Rattle.model.specs.Desk.{plain, Desk, absent, find, live}
+use Rattle.model.specs.Slots.{taken, topAfter, pushed, evicted}
+use Rattle.model.specs.Perform.{Cache, verdict, perform}
 use Rattle.model.specs.Claims.{Alike}
 use Rattle.model.proofs.Cases.{and-no}
 use Rattle.model.proofs.Backs.{length-oldest, butLast-back, oldest-back, butLast-none, oldest-none}

@@ -16,7 +16,7 @@ use Rattle.head.specs.declared.Command.{Command}
 use Rattle.head.specs.declared.Command.the-variants.{Len, Capacity, Weight, IsEmpty, IsFull, Front, Back, Peek, Contains, List as ListFront, ListBack, Get, Pop, PopFront, PopBack, Put, PutWithWeight, Clear, Retain, Resize, PutOrModify, TryPutOrModify, GetMut, PeekMut, FrontMut, BackMut}
 use Rattle.head.specs.Bounds.{capacityOk}
 use Rattle.model.specs.Lists.{without, only, oldest, marked, others}
-use Rattle.model.specs.Desk.{Kind, plain, weighed, Desk, entry, live, leaving, isRule, Found, absent, present, find, first, last, onFound, marks, revalued}
+use Rattle.model.specs.Desk.{Kind, Desk, entry, live, leaving, isRule, Found, absent, present, find, first, last, onFound, marks, revalued}
 use Rattle.model.specs.Moves.{Move, stay, raise, set, renew, drop, place, replace, fit, sweep, clear, onDesk}
 use Rattle.model.specs.Calls.{Verdict, refuse, onPlain, popping, setting, admit, pushing, beside, wrongWeight, putCall, putWithWeightCall, putOrModifyCall, tryPutOrModifyCall}
 use Rattle.model.specs.Perform.{Cache, fresh, verdict, handed, carried, perform}

@@ -2,18 +2,18 @@
 -- Assumes nothing.
 use Prim.Native.Nat.{ℕ, _+_, _-_, _%_, _^_}
 use mathlib.Core.Bool.{Bool, true, false, cond, not, _&&_}
-use mathlib.Core.List.{List, [], _∷_, reverse}
+use mathlib.Core.List.{List, []}
 use lib.Dec.{eqb, leb, ltb}
 use lib.ListN.{length}
 use Rattle.head.specs.declared.Row.{Row}
 use Rattle.head.specs.declared.Rule.{Rule}
 use Rattle.head.specs.declared.Refusal.{Refusal}
-use Rattle.head.specs.declared.Refusal.the-variants.{WrongKind, TooHeavy, NoSlot, TooFewRows, OverCeiling, NotUnderstood}
+use Rattle.head.specs.declared.Refusal.the-variants.{WrongKind, TooHeavy, NoSlot, OverCeiling, NotUnderstood}
 use Rattle.head.specs.declared.Answer.{Answer}
 use Rattle.head.specs.declared.Answer.the-variants.{No, New, Was, Is, Now, Absent, Entry, Done, Count, Flag}
 use Rattle.head.specs.Bounds.{capacityOk}
 use Rattle.model.specs.Lists.{without, oldest, marked, others}
-use Rattle.model.specs.Desk.{Kind, plain, weighed, Desk, entry, Found, find, first, last, onFound, live, weighs, leaving, isRule, marks}
+use Rattle.model.specs.Desk.{Kind, plain, weighed, Desk, entry, Found, find, onFound, live, weighs, leaving, isRule, marks}
 use Rattle.model.specs.Moves.{Move, stay, raise, set, renew, drop, place, replace, fit, sweep, clear}
 
 -- what a call answers, hands out and does

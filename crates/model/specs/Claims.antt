@@ -1,14 +1,14 @@
 -- What the laws say of the definitions: 01's loop of eviction, what holds of every cache from opening on, and outcomes that differ in slots alone.
 -- Assumes nothing.
 use Prim.Native.Nat.{ℕ, zero, suc, _+_, _≤_}
-use mathlib.Core.Bool.{Bool, true, false, cond}
-use mathlib.Core.List.{List, [], _∷_, _++_}
+use mathlib.Core.Bool.{Bool, cond}
+use mathlib.Core.List.{List, [], _++_}
 use mathlib.Core.Path.{_≡_}
 use lib.ListN.{length}
 use Rattle.head.specs.declared.Row.{Row}
 use Rattle.head.specs.Bounds.{mostCapacity, mostSlots}
 use Rattle.model.specs.Lists.{butLast, oldest}
-use Rattle.model.specs.Desk.{Kind, plain, Desk, live, weighs, leaving}
+use Rattle.model.specs.Desk.{plain, Desk, live, weighs, leaving}
 use Rattle.model.specs.Perform.{Outcome}
 use Rattle.model.specs.Codes.{codesOf, Distinct}
 

@@ -2,11 +2,11 @@
 -- Assumes nothing.
 use Prim.Native.Nat.{ℕ, _*_}
 use mathlib.Core.Path.{_≡_, refl}
-use mathlib.Core.Bool.{Bool, true, false}
+use mathlib.Core.Bool.{true}
 use mathlib.Core.List.{List, [], _∷_, _++_}
 use Rattle.head.specs.declared.Row.{Row}
 use Rattle.head.specs.declared.Answer.{Answer}
-use Rattle.head.specs.declared.Answer.the-variants.{No, New, Was, Is, Now, Entry, Done, Count, Flag}
+use Rattle.head.specs.declared.Answer.the-variants.{No, New, Was, Is, Entry, Done, Count, Flag}
 use Rattle.head.specs.declared.Refusal.the-variants.{TooHeavy, NoSlot, OverCeiling}
 use Rattle.head.specs.declared.Command.{Command}
 use Rattle.head.specs.declared.Command.the-variants.{Len, Weight, IsFull, Front, Peek, Get, Pop, Put, PutWithWeight, Resize, TryPutOrModify}

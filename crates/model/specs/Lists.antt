@@ -1,7 +1,7 @@
 -- What is done to a list, whatever it holds: the recency list and the list of its slots are treated alike. The front is place 0.
 -- Assumes nothing.
 use Prim.Native.Nat.{ℕ, zero, suc, _-_}
-use mathlib.Core.Bool.{Bool, true, false, cond, not}
+use mathlib.Core.Bool.{Bool, cond, not}
 use mathlib.Core.List.{List, [], _∷_, _++_, reverse, map}
 use lib.ListN.{length, take, drop}
 

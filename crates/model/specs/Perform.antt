@@ -1,8 +1,8 @@
 -- The cache as a whole, and the calls gathered over `Command`.
 -- Assumes nothing.
 use Prim.Native.Nat.{ℕ}
-use mathlib.Core.Bool.{Bool, true, false, cond, _&&_}
-use mathlib.Core.List.{List, [], _∷_, reverse}
+use mathlib.Core.Bool.{Bool, cond, _&&_}
+use mathlib.Core.List.{List, [], reverse}
 use lib.Dec.{leb}
 use lib.ListN.{length}
 use Rattle.head.specs.declared.Row.{Row}
