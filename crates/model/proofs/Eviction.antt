@@ -86,7 +86,7 @@ pub none-leave : (b : ℕ) (es : List Row) → spent es ≤ b → leaving b es �
 none-leave b es h = omega (arith, fitting-all b es h)
 
 -- where they take more than b, not all fit
-not-all : (b : ℕ) (es : List Row) → b < spent es → fitting b es < length es
+pub not-all : (b : ℕ) (es : List Row) → b < spent es → fitting b es < length es
 not-all b [] h = absurd (omega arith)
 not-all b (e ∷ es) h =
     split (leb (cost e) b)
@@ -97,7 +97,7 @@ not-all b (e ∷ es) h =
     (λ t. rw t (omega arith))
 
 -- then one leaves from the back, and of the rest as many as by themselves
-one-more : (b : ℕ) (es : List Row) → b < spent es → leaving b es ≡ suc (leaving b (butLast 1 es))
+pub one-more : (b : ℕ) (es : List Row) → b < spent es → leaving b es ≡ suc (leaving b (butLast 1 es))
 one-more b es h =
     let f = not-all b es h in
     let t = fitting-take b (length es - 1) es (omega arith) in

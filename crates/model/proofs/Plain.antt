@@ -1,12 +1,12 @@
 -- A plain cache with no fewer slots than its capacity, asked by `put`, `get`, `peek` and `contains`: how its codes move.
 -- Assumes nothing.
-use Prim.Native.Nat.{ℕ, zero, suc, _-_, _≤_, _<_}
+use Prim.Native.Nat.{ℕ, suc, _-_, _≤_, _<_}
 use mathlib.Core.Bool.{true, false, cond, _&&_, false≢true}
-use mathlib.Core.List.{List, [], _∷_, _++_}
+use mathlib.Core.List.{List, [], _∷_}
 use mathlib.Core.Path.{_≡_, refl, sym, ap}
 use native.Mathlib.Omega.{arith}
 use lib.Dec.{eqb}
-use lib.ListN.{length, take}
+use lib.ListN.{length}
 use lib.Seq.{take-all}
 use borrow.Author.Tests.{eqb-true, eqb-false, ne-eqb, le-leb}
 use Rattle.head.specs.declared.Code.{Code}
@@ -25,38 +25,14 @@ use Rattle.model.specs.Runs.{Call, step, after, Sort, plainPut, getting,
 use Rattle.model.proofs.Cases.{split, eqb-sym, and-no}
 use Rattle.model.proofs.Backs.{length-butLast, length-oldest}
 use Rattle.model.proofs.Counting.{codes-revalued}
+use Rattle.model.proofs.Mapping.{coding, map-length, map-toFront, map-butLast}
 use Rattle.model.proofs.Rank.{minus}
 
 -- the codes of a cache
 abbrev pub codes : Cache → List ℕ
 codes c = codesOf (c .desk .entries)
 
--- ---- codes of a list that was cut or raised
-
-codes-length : (es : List Row) → length (codesOf es) ≡ length es
-codes-length [] = refl
-codes-length (e ∷ es) = ap suc (codes-length es)
-
-codes-take : (n : ℕ) (es : List Row) → codesOf (take n es) ≡ take n (codesOf es)
-codes-take zero es = refl
-codes-take (suc n) [] = refl
-codes-take (suc n) (e ∷ es) = rw (codes-take n es)
-
-codes-butLast : (n : ℕ) (es : List Row) → codesOf (butLast n es) ≡ butLast n (codesOf es)
-codes-butLast n es = rw (codes-take (length es - n) es, codes-length es)
-
-codes-without : (i : ℕ) (es : List Row) → codesOf (without i es) ≡ without i (codesOf es)
-codes-without i [] = refl
-codes-without zero (e ∷ es) = refl
-codes-without (suc i) (e ∷ es) = rw (codes-without i es)
-
-codes-only : (i : ℕ) (es fs : List Row) → codesOf (only i es ++ fs) ≡ only i (codesOf es) ++ codesOf fs
-codes-only i [] fs = refl
-codes-only zero (e ∷ es) fs = refl
-codes-only (suc i) (e ∷ es) fs = codes-only i es fs
-
-codes-toFront : (i : ℕ) (es : List Row) → codesOf (toFront i es) ≡ toFront i (codesOf es)
-codes-toFront i es = rw (codes-only i es (without i es), codes-without i es)
+-- ---- codes
 
 length-minus : (c : ℕ) (l : List ℕ) → has c l ≡ true → suc (length (minus c l)) ≡ length l
 length-minus c [] h = absurd (false≢true h)
@@ -151,8 +127,8 @@ module _ (C N : ℕ) (some : 1 ≤ C) (wide : C ≤ N) (c : Cache) (p : Plain C 
       capacity = rw e (p .capacity);
       room = rw e (p .room);
       fits =
-          let f : length (codes c) ≤ C = rw (codes-length (c .desk .entries)) (p .fits) in
-          rw (e, ← codes-length es) (moved-fits some f m);
+          let f : length (codes c) ≤ C = rw (map-length coding (c .desk .entries)) (p .fits) in
+          rw (e, ← map-length coding es) (moved-fits some f m);
     };
   }
 
@@ -172,7 +148,7 @@ module _ (C N : ℕ) (some : 1 ≤ C) (wide : C ≤ N) (c : Cache) (p : Plain C 
       let v : Verdict = saying (Is (e .value)) (raise i) in
       asked (Get k) lent v (rw q) (omega arith)
       (held (getting (k .0)) v (toFront i (c .desk .entries)) refl
-      (rw (codes-toFront i (c .desk .entries), h .1, h .2) (raised (k .0) (h .0))))
+      (rw (map-toFront coding i (c .desk .entries), h .1, h .2) (raised (k .0) (h .0))))
 
   -- a call that answers and does nothing
   look-asked : (m : Command) (lent : ℕ) (a : Answer) → verdict m (c .desk) ≡ saying a stay → isNew (wordOf a) ≡ false → sortOf m ≡ looking
@@ -195,14 +171,14 @@ module _ (C N : ℕ) (some : 1 ≤ C) (wide : C ≤ N) (c : Cache) (p : Plain C 
       let es : List Row = c .desk .entries in
       let w : Verdict = record { answer = New n; rows = oldest n es; move = place n (entry (k .0) s v 0) } in
       asked (Put k s v) lent w (rw (p .kind, e, q, z)) (omega (arith, length-oldest n es))
-      (held (plainPut (k .0)) w (entry (k .0) s v 0 ∷ butLast n es) refl (rw (codes-butLast n es) m))
+      (held (plainPut (k .0)) w (entry (k .0) s v 0 ∷ butLast n es) refl (rw (map-butLast coding n es) m))
 
   put-asked : (k : Code) (s v lent : ℕ) → 1 ≤ lent → (f : Found) → find (k .0) (c .desk .entries) ≡ f → Finding (k .0) (codes c) f
       → Asked C N c (plainPut (k .0)) (perform (Put k s v) lent c)
   unfolding verdict
   put-asked k s v lent n absent e h =
       let d : Desk = c .desk in
-      let f = codes-length (d .entries) in
+      let f = map-length coding (d .entries) in
       split (eqb (live d) (d .capacity))
       (λ t.
       let full = eqb-true (live d) (d .capacity) t in
@@ -217,7 +193,7 @@ module _ (C N : ℕ) (some : 1 ≤ C) (wide : C ≤ N) (c : Cache) (p : Plain C 
       let es : List Row = revalued i v (c .desk .entries) in
       asked (Put k s v) lent w (rw (p .kind, q)) (omega arith)
       (held (plainPut (k .0)) w (toFront i es) refl
-      (rw (codes-toFront i es, codes-revalued i v (c .desk .entries), h .1, h .2) (renewed (k .0) (h .0))))
+      (rw (map-toFront coding i es, codes-revalued i v (c .desk .entries), h .1, h .2) (renewed (k .0) (h .0))))
 
   -- every request moves the codes so, and leaves a plain cache
   pub request-asked : (m : Command) (lent : ℕ) → Request (sortOf m) lent → Asked C N c (sortOf m) (perform m lent c)
