@@ -21,13 +21,13 @@ use Rattle.model.specs.Moves.{Move, stay, raise, set, renew, drop, place
 use Rattle.model.specs.Calls.{Verdict, admit, pushing, beside, exchange, wrongWeight, putOrModifyCall}
 use Rattle.model.specs.Perform.{Cache, fresh, verdict, handed, perform}
 use Rattle.model.specs.Runs.{Call, step, after}
-use Rattle.model.specs.Codes.{codesOf, Distinct}
+use Rattle.model.specs.Codes.{codesOf, count, Distinct}
 use Rattle.model.specs.Claims.{spent, Lawful}
 use Rattle.model.proofs.Cases.{split, both}
 use Rattle.model.proofs.Verdicts.{on-test, on-found, on-plain, on-lent}
-use Rattle.model.proofs.Counting.{sized, weighing, of-without, of-toFront, of-cut, of-marked, length-marks, find-present}
+use Rattle.model.proofs.Counting.{coded, sized, weighing, of-without, of-toFront, of-cut, of-marked, length-marks, find-present}
 use Rattle.model.proofs.Backs.{length-butLast}
-use Rattle.model.proofs.Tally.{distinct-step}
+use Rattle.model.proofs.Tally.{distinct-step, move-tally}
 use Rattle.model.proofs.Eviction.{enough, pushing-leaves}
 
 -- all of `Lawful` but the codes
@@ -72,13 +72,13 @@ no-more-trans a b = record { shorter = omega arith; lighter = omega arith }
 -- ---- moves
 
 -- there is room for the entry e in front of the entries es
-record Takes (d : Desk) (e : Row) (es : List Row) : Type 0 where
+pub record Takes (d : Desk) (e : Row) (es : List Row) : Type 0 where
   pub within : cost e + spent es ≤ d .capacity
   pub roomy : suc (length es) ≤ d .room
   pub light : d .kind ≡ plain → e .weight ≡ 0
 
 -- what a move has to see to
-abbrev Proper : Desk → Move → Type 0
+abbrev pub Proper : Desk → Move → Type 0
 Proper d stay = Unit {0}
 Proper d (raise i) = Unit {0}
 Proper d (set i v) = Unit {0}
@@ -286,6 +286,53 @@ lawful d b u = record {
   light = b .light;
 }
 
+bounded : (d : Desk) → Lawful d → Bounded d
+bounded d l = record { capacity = l .capacity; room = l .room; within = l .within; roomy = l .roomy; light = l .light }
+
+-- a new code must not stand in what is left of the list
+abbrev pub Apart : Desk → Move → Type 0
+Apart d stay = Unit {0}
+Apart d (raise i) = Unit {0}
+Apart d (set i v) = Unit {0}
+Apart d (renew i v) = Unit {0}
+Apart d (drop i) = Unit {0}
+Apart d (place k e) = count (e .code .0) (codesOf (butLast k (d .entries))) ≡ 0
+Apart d (replace i k e) = count (e .code .0) (codesOf (butLast k (without i (d .entries)))) ≡ 0
+Apart d (fit k c) = Unit {0}
+Apart d (sweep q) = Unit {0}
+Apart d clear = Unit {0}
+
+-- a code in front of codes that do not have it
+distinct-front : (c : ℕ) (cs : List ℕ) → count c cs ≡ 0 → Distinct cs → Distinct (c ∷ cs)
+distinct-front c cs h u x =
+    split (eqb x c)
+    (λ t. let z : count x cs ≡ 0 = rw (eqb-true x c t) h in rw t (omega arith))
+    (λ t. rw t (omega (arith, u x)))
+
+distinct-less : (d : Desk) (es : List Row) → Lawful d → ((x : ℕ) → count x (codesOf es) ≤ count x (codesOf (d .entries))) → Distinct (codesOf es)
+distinct-less d es l h x = omega (arith, h x, l .distinct x)
+
+distinct-move : (m : Move) (d : Desk) → Lawful d → Apart d m → Distinct (codesOf (onDesk m d .entries))
+distinct-move stay d l a = l .distinct
+distinct-move (raise i) d l a = distinct-less d (onDesk (raise i) d .entries) l (λ x. omega (arith, move-tally (raise i) d x))
+distinct-move (set i v) d l a = distinct-less d (onDesk (set i v) d .entries) l (λ x. omega (arith, move-tally (set i v) d x))
+distinct-move (renew i v) d l a = distinct-less d (onDesk (renew i v) d .entries) l (λ x. omega (arith, move-tally (renew i v) d x))
+distinct-move (drop i) d l a = distinct-less d (onDesk (drop i) d .entries) l (λ x. omega (arith, move-tally (drop i) d x))
+distinct-move (place k e) d l a =
+    distinct-front (e .code .0) (codesOf (butLast k (d .entries))) a
+    (distinct-less d (butLast k (d .entries)) l (λ x. omega (arith, of-cut (coded x) k (d .entries))))
+distinct-move (replace i k e) d l a =
+    distinct-front (e .code .0) (codesOf (butLast k (without i (d .entries)))) a
+    (distinct-less d (butLast k (without i (d .entries))) l
+    (λ x. omega (arith, of-cut (coded x) k (without i (d .entries)), of-without (coded x) i (d .entries))))
+distinct-move (fit k c) d l a = distinct-less d (onDesk (fit k c) d .entries) l (λ x. omega (arith, move-tally (fit k c) d x))
+distinct-move (sweep q) d l a = distinct-less d (onDesk (sweep q) d .entries) l (λ x. omega (arith, move-tally (sweep q) d x))
+distinct-move clear d l a = λ x. omega arith
+
+-- a proper move leaves a lawful cache lawful
+pub move-lawful : (m : Move) (d : Desk) → Lawful d → Proper d m → Apart d m → Lawful (onDesk m d)
+move-lawful m d l p a = lawful (onDesk m d) (moved d (bounded d l) m p) (distinct-move m d l a)
+
 -- every cache that opening gives is lawful
 pub fresh-lawful : (kind c n : ℕ) → allowed kind c n ≡ true → Lawful (fresh (kindOf kind) c n .desk)
 fresh-lawful kind c n h = lawful (fresh (kindOf kind) c n .desk) (bounded-fresh kind c n h) (λ x. omega arith)
@@ -294,7 +341,7 @@ fresh-lawful kind c n h = lawful (fresh (kindOf kind) c n .desk) (bounded-fresh 
 pub step-lawful : (a : Call) (c : Cache) → Lawful (c .desk) → Lawful (step a c .left .desk)
 step-lawful a c l =
     lawful (step a c .left .desk)
-    (bounded-step a c (record { capacity = l .capacity; room = l .room; within = l .within; roomy = l .roomy; light = l .light }))
+    (bounded-step a c (bounded (c .desk) l))
     (distinct-step a c (l .distinct))
 
 pub after-lawful : (c : Cache) (as′ : List Call) → Lawful (c .desk) → Lawful (after c as′ .desk)
