@@ -2,12 +2,12 @@
 -- Assumes nothing.
 use Prim.Native.Nat.{ℕ, suc, _-_, _≤_}
 use mathlib.Core.List.{List, [], _∷_, _++_, reverse-append}
-use mathlib.Core.Path.{_≡_, refl, ap, _∙_}
+use mathlib.Core.Path.{_≡_, refl, sym, ap, _∙_, subst}
 use native.Mathlib.Omega.{arith}
 use native.Mathlib.Numerals.{add-one}
 use lib.ListN.{length, drop, length-append, length-reverse, length-drop}
 use lib.Seq.{take-append-le, drop-append-le, take-length, drop-length, length-take-le}
-use Rattle.model.specs.Lists.{only, butLast, oldest}
+use Rattle.model.specs.Lists.{without, only, butLast, oldest}
 
 pub length-butLast : {A : Type 0} (k : ℕ) (xs : List A) → length (butLast k xs) ≡ length xs - k
 length-butLast k xs = length-take-le (length xs - k) xs (omega arith)
@@ -54,3 +54,28 @@ back-of (x ∷ []) h = record { front = []; back = x; same = refl }
 back-of (x ∷ y ∷ es) h =
     let r = back-of (y ∷ es) (omega arith) in
     record { front = x ∷ r .front; back = r .back; same = ap (λ (l : List _). x ∷ l) (r .same) }
+
+-- without its last place
+pub without-back : {A : Type 0} (xs : List A) (x : A) → without (length xs) (xs ++ (x ∷ [])) ≡ xs
+without-back [] x = refl
+without-back (y ∷ xs) x = ap (λ (l : List _). y ∷ l) (without-back xs x)
+
+-- one leaves from the back, then k: as k + 1 at once
+pub butLast-more : {A : Type 0} (k : ℕ) (xs : List A) → 1 ≤ length xs → butLast (suc k) xs ≡ butLast k (without (length xs - 1) xs)
+butLast-more {A} k xs h = by (back-of xs h)
+  where
+    by : Back xs → butLast (suc k) xs ≡ butLast k (without (length xs - 1) xs)
+    by b =
+        subst (λ (l : List A). butLast (suc k) l ≡ butLast k (without (length l - 1) l)) (sym (b .same))
+        (let n : length (b .front ++ (b .back ∷ [])) - 1 ≡ length (b .front) = omega (arith, length-back (b .front) (b .back)) in
+        rw (n, without-back (b .front) (b .back)) (butLast-back k (b .front) (b .back)))
+
+pub oldest-more : {A : Type 0} (k : ℕ) (xs : List A) → 1 ≤ length xs
+    → oldest (suc k) xs ≡ only (length xs - 1) xs ++ oldest k (without (length xs - 1) xs)
+oldest-more {A} k xs h = by (back-of xs h)
+  where
+    by : Back xs → oldest (suc k) xs ≡ only (length xs - 1) xs ++ oldest k (without (length xs - 1) xs)
+    by b =
+        subst (λ (l : List A). oldest (suc k) l ≡ only (length l - 1) l ++ oldest k (without (length l - 1) l)) (sym (b .same))
+        (let n : length (b .front ++ (b .back ∷ [])) - 1 ≡ length (b .front) = omega (arith, length-back (b .front) (b .back)) in
+        rw (n, without-back (b .front) (b .back), only-back (b .front) (b .back)) (oldest-back k (b .front) (b .back)))

@@ -30,8 +30,8 @@ times x = record { of = count x; each = λ y. one (eqb x y); none = refl; more =
 abbrev pub coded : ℕ → Measure Row
 coded x = record { of = λ es. count x (codesOf es); each = λ e. one (eqb x (e .code .0)); none = refl; more = λ e es. refl }
 
--- how many entries there are, and what they weigh together
-abbrev pub sized : Measure Row
+-- how long a list is, and what entries weigh together
+abbrev pub sized : {A : Type 0} → Measure A
 sized = record { of = length; each = λ e. 1; none = refl; more = λ e es. omega arith }
 
 abbrev pub weighing : Measure Row
