@@ -2,3 +2,4 @@ pub mod Bounds
 pub mod Fresh
 pub mod Refusals
 pub mod Rules
+pub mod Tails

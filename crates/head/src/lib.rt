@@ -2,7 +2,7 @@
 ghost use mathlib.Core.Path.{_≡_};
 ghost use mathlib.Core.Bool.{not};
 ghost use Rattle.head.specs.Bounds.{allowed};
-ghost use Rattle.head.specs.Fresh.{freshHead};
+ghost use Rattle.head.specs.Fresh.{freshHead, reweighed, recapped};
 ghost use Rattle.head.specs.Refusals.{numberOf};
 ghost use Rattle.head.specs.Rules.{codeRule, valueRule, stampRule, weightRule, ruleOf};
 
@@ -81,6 +81,20 @@ impl Head {
             top: Slot(0),
             depth: Place(0),
         }
+    }
+
+    pub fn with_weight(mut self, weight: u64) -> Head
+        ensures { λ r. ⌜ r ≡ reweighed weight self ⌝ }
+    {
+        self.weight = weight;
+        self
+    }
+
+    pub fn with_capacity(mut self, capacity: u64) -> Head
+        ensures { λ r. ⌜ r ≡ recapped capacity self ⌝ }
+    {
+        self.capacity = capacity;
+        self
     }
 }
 

@@ -1,0 +1,5 @@
+pub mod Entries
+pub mod Xor
+pub mod Shifts
+pub mod Published
+pub mod Homes

@@ -1,0 +1,5 @@
+pub mod Order
+pub mod Links
+pub mod Steps
+pub mod Promises
+pub mod Inspect

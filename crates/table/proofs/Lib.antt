@@ -1,0 +1,14 @@
+pub mod Ring
+pub mod Runs
+pub mod Seek
+pub mod Count
+pub mod Found
+pub mod Answers
+pub mod Members
+pub mod Placed
+pub mod Between
+pub mod Shift
+pub mod Kept
+pub mod Renewal
+pub mod Tallies
+pub mod Checked

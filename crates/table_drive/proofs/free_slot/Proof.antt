@@ -1,0 +1,51 @@
+-- `table_drive::free_slot` is safe and ends.
+-- Assumes nothing.
+use Prim.Native.Nat.{_-_, _≤_}
+use native.Mathlib.Omega.{arith}
+use Rattle.table_drive.proofs.free_slot.Statement.{statement}
+use Rattle.table_drive.proofs.free_slot.Tie as tie
+
+abbrev Inv-loop : tie.InvT-loop
+Inv-loop next front live s₀ s = s ≤ 16
+
+abbrev μ-loop : tie.MeasureT-loop
+μ-loop next front live s₀ s = 16 - s
+
+loop-holds : tie.Need-loop-holds Inv-loop μ-loop
+loop-holds c = omega arith
+
+cast-absent : tie.Need-cast-absent Inv-loop μ-loop
+cast-absent c = omega (arith, c .loop-test .taken)
+
+absent-requires : tie.Need-absent-requires Inv-loop μ-loop
+absent-requires c κs = tt
+
+returns : tie.Need-returns Inv-loop μ-loop
+returns c = tt
+
+add-s : tie.Need-add-s Inv-loop μ-loop
+add-s c = omega (arith, c .before .before .loop-test .taken)
+
+loop-less : tie.Need-loop-less Inv-loop μ-loop
+loop-less c = omega (arith, c .before .before .loop-test .taken)
+
+loop-again : tie.Need-loop-again Inv-loop μ-loop
+loop-again c = omega (arith, c .before .before .loop-test .taken)
+
+returns-2 : tie.Need-returns-2 Inv-loop μ-loop
+returns-2 c = tt
+
+pub free-slot-spec : {M : Type 1} → statement M
+free-slot-spec =
+    tie.close
+    (tie.spec
+    Inv-loop
+    μ-loop
+    loop-holds
+    cast-absent
+    absent-requires
+    returns
+    add-s
+    loop-less
+    loop-again
+    returns-2)
