@@ -1,0 +1,9 @@
+pub mod Gathered
+pub mod Members
+pub mod Described
+pub mod Exchanged
+pub mod Shedding
+pub mod Emptied
+pub mod Writing
+pub mod Evicting
+pub mod Settled
