@@ -3,3 +3,4 @@ pub mod Fresh
 pub mod Refusals
 pub mod Rules
 pub mod Tails
+pub mod Fields

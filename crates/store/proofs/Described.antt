@@ -21,7 +21,8 @@ use Rattle.model.proofs.Lawful.{move-lawful}
 use Rattle.list.specs.Order.{below}
 use Rattle.list.specs.Promises.{Moved}
 use Rattle.table.proofs.Kept.{order-sound}
-use Rattle.store.specs.State.{Fields, Reach, entryIn, Describes}
+use Rattle.head.specs.Fields.{Fields, Reach}
+use Rattle.store.specs.State.{entryIn, Describes}
 use Rattle.store.specs.Caches.{after, shed, added, capped}
 use Rattle.store.proofs.Gathered.{gathering, gather-revalued, only-in}
 use Rattle.store.proofs.Members.{counted-same}

@@ -22,7 +22,8 @@ use Rattle.list.proofs.Filling.{fill-tail, fill-at}
 use Rattle.table.specs.Sound.{Sound}
 use Rattle.table.specs.Acts.{cleared}
 use Rattle.table.proofs.Kept.{clear-sound, clear-tail}
-use Rattle.store.specs.State.{Fields, Reach, entryIn, blank, Describes}
+use Rattle.head.specs.Fields.{Fields, Reach}
+use Rattle.store.specs.State.{entryIn, blank, Describes}
 use Rattle.store.specs.Acts.{Spacious, Emptied}
 use Rattle.store.specs.Caches.{after, capped}
 use Rattle.store.proofs.Exchanged.{renumbered-linked}

@@ -14,7 +14,8 @@ use Rattle.model.specs.Perform.{Cache}
 use Rattle.model.proofs.Backs.{only-back, back-of}
 use Rattle.model.proofs.Counting.{sized, of-without}
 use Rattle.list.specs.Order.{lastOr}
-use Rattle.store.specs.State.{Fields, Describes}
+use Rattle.head.specs.Fields.{Fields}
+use Rattle.store.specs.State.{Describes}
 use Rattle.store.specs.Caches.{after, shed}
 use Rattle.store.specs.Acts.{Tails, Occupied, Dropped, Rich, Shed}
 use Rattle.store.proofs.Described.{order-length}

@@ -33,7 +33,8 @@ use Rattle.table.specs.Sound.{Sound}
 use Rattle.table.specs.Acts as table
 use Rattle.table.proofs.Kept.{removed-sound, codes-sound}
 use Rattle.table.proofs.Placed.{insert-sound}
-use Rattle.store.specs.State.{Fields, Reach, entryIn, gather, blank, Describes, Changed}
+use Rattle.head.specs.Fields.{Fields, Reach}
+use Rattle.store.specs.State.{entryIn, gather, blank, Describes, Changed}
 use Rattle.store.specs.Caches.{after, added}
 use Rattle.store.proofs.Gathered.{gathering, gather-agree}
 use Rattle.store.proofs.Members.{counted-member, member-counted}

@@ -15,7 +15,8 @@ use Rattle.model.specs.Codes.{one, count}
 use Rattle.model.proofs.Mapping.{Mapping}
 use Rattle.model.proofs.Counting.{times, of-without}
 use Rattle.model.proofs.Cases.{split}
-use Rattle.store.specs.State.{Fields, entryIn, gather}
+use Rattle.head.specs.Fields.{Fields}
+use Rattle.store.specs.State.{entryIn, gather}
 
 abbrev pub gathering : Fields → Mapping ℕ Row
 gathering f = record { of = gather f; each = entryIn f; none = refl; more = λ s ss. refl }

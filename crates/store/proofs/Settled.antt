@@ -12,7 +12,8 @@ use Rattle.model.specs.Desk.{Kind, plain, weighed, kindNumber}
 use Rattle.model.specs.Perform.{Cache}
 use Rattle.list.specs.Links.{Rest}
 use Rattle.list.proofs.Unique.{one-order, one-free, same-next, same-prev, same-stack, one-head}
-use Rattle.store.specs.State.{Fields, entryIn, gather, Describes}
+use Rattle.head.specs.Fields.{Fields}
+use Rattle.store.specs.State.{entryIn, gather, Describes}
 use Rattle.list.proofs.Marks.{miss, same?, under?}
 
 one-kind : (a b : Kind) → kindNumber a ≡ kindNumber b → a ≡ b

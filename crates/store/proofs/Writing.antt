@@ -22,7 +22,8 @@ use Rattle.table.specs.Acts as table
 use Rattle.table.proofs.Found.{sound-open}
 use Rattle.table.proofs.Placed.{insert-tail}
 use Rattle.crc.proofs.Homes.{home-lt}
-use Rattle.store.specs.State.{Fields, Reach, blank, Describes, Changed}
+use Rattle.head.specs.Fields.{Fields, Reach}
+use Rattle.store.specs.State.{blank, Describes, Changed}
 use Rattle.store.specs.Caches.{after}
 use Rattle.store.specs.Acts.{Writable, Wrote, Tails, Occupied, Dropped, Admits, Added}
 use Rattle.store.proofs.Gathered.{only-in}

@@ -13,7 +13,8 @@ use Rattle.model.specs.Perform.{Cache}
 use Rattle.crc.specs.Home.{homeOf}
 use Rattle.list.specs.Links.{Long, Linked}
 use Rattle.table.specs.Sound.{Sound}
-use Rattle.store.specs.State.{Fields, Reach, entryIn, blank, Describes}
+use Rattle.head.specs.Fields.{Fields, Reach}
+use Rattle.store.specs.State.{entryIn, blank, Describes}
 use Rattle.model.specs.Codes.{count, codesOf}
 use Rattle.model.proofs.Lawful.{Takes}
 use Rattle.store.specs.Caches.{after, added, shed}

@@ -1,6 +1,6 @@
 -- The state as a whole: a head and its lent lists describe a value of `model`.
 -- Assumes nothing.
-use Prim.Native.Nat.{ℕ, _*_, _≤_, _<_}
+use Prim.Native.Nat.{ℕ, _*_, _<_}
 use mathlib.Core.List.{List, [], _∷_}
 use mathlib.Core.Path.{_≡_}
 use lib.ListN.{length, getD}
@@ -13,20 +13,7 @@ use Rattle.model.specs.Perform.{Cache}
 use Rattle.model.specs.Claims.{Lawful}
 use Rattle.list.specs.Links.{Linked}
 use Rattle.table.specs.Sound.{Sound}
-
--- the four lists that hold the entries' numbers, slot by slot
-pub record Fields : Type 0 where
-  pub codes : List ℕ
-  pub stamps : List ℕ
-  pub values : List ℕ
-  pub weights : List ℕ
-
--- each of them reaches n slots
-pub record Reach (n : ℕ) (f : Fields) : Type 0 where
-  pub codes : n ≤ length (f .codes)
-  pub stamps : n ≤ length (f .stamps)
-  pub values : n ≤ length (f .values)
-  pub weights : n ≤ length (f .weights)
+use Rattle.head.specs.Fields.{Fields, Reach}
 
 -- what slot s holds
 abbrev pub entryIn : Fields → ℕ → Row
