@@ -29,7 +29,8 @@ use Rattle.store.proofs.Described.{order-live}
 use Rattle.inspect.specs.Tests.{headOk, Carried, sumOk, blankOk}
 use Rattle.inspect.proofs.Blanks.{blank-is, blank-passes}
 use Rattle.inspect.proofs.Sums.{sum-is, sum-passes}
-use Rattle.inspect.proofs.Orders.{codes-once, order-walked, slot-once, walk-carried, walk-listed}
+use Rattle.store.proofs.Walked.{order-walked, walk-listed}
+use Rattle.inspect.proofs.Orders.{codes-once, slot-once, walk-carried}
 use Rattle.inspect.proofs.Numbers.{kind-number, kind-plain, number-plain, number-small, numbered, head-passes, lengths, reached, reached-passes}
 
 module _ (h : Head) (f : Fields) (nx pv st cells : List ℕ) where

@@ -1,11 +1,11 @@
--- The order that sound links walk: the same for the list and for the table, no slot twice, each slot one of the N.
+-- What the order that sound links walk gives: no code twice, and weights that a walk can read.
 -- Assumes nothing.
-use Prim.Native.Nat.{ℕ, zero, suc, _*_, _≤_, _<_}
+use Prim.Native.Nat.{ℕ, _≤_}
 use mathlib.Core.List.{List, [], _∷_, List·Memᴰ}
 use mathlib.Core.Path.{_≡_, refl, sym, ap, _∙_, subst}
 use native.Mathlib.Omega.{arith}
 use lib.Dec.{eqb}
-use lib.ListN.{length, getD}
+use lib.ListN.{getD}
 use borrow.Author.Tests.{eqb-true, ne-eqb}
 use Rattle.head.specs.declared.Head.{Head}
 use Rattle.model.specs.Codes.{one, count, codesOf}
@@ -13,25 +13,13 @@ use Rattle.model.proofs.Cases.{split}
 use Rattle.list.specs.Links.{Linked}
 use Rattle.list.proofs.Marks.{hit}
 use Rattle.list.proofs.Unique as list
-use Rattle.list.proofs.Within.{in-slots, once}
-use Rattle.table.specs.Sound.{Distinct}
-use Rattle.table.specs.Links.{walk, Listed}
+use Rattle.list.proofs.Within.{once}
+use Rattle.table.specs.Links.{walk}
 use Rattle.head.specs.Fields.{Fields, Reach}
 use Rattle.store.specs.State.{gather}
+use Rattle.store.proofs.Walked.{order-walked, slot-below}
 use Rattle.store.proofs.Members.{counted-member, member-counted}
 use Rattle.inspect.specs.Tests.{Carried}
-
--- the list's walk and the table's are one
-walks : (k x : ℕ) (nx : List ℕ) → list.walk k x nx ≡ walk nx x k
-unfolding walk
-walks zero x nx = refl
-walks (suc k) x nx = ap (λ (l : List ℕ). x ∷ l) (walks k (getD nx x 0) nx)
-
--- counted once at most, so distinct
-distinct : (o : List ℕ) → ((u : ℕ) → count u o ≤ 1) → Distinct o
-unfolding Distinct
-distinct [] h = tt
-distinct (x ∷ o) h = ((λ m. omega (arith, h x, hit x x refl, member-counted x o m)), distinct o (λ u. omega (arith, h u)))
 
 -- a code that no slot of the order has
 code-absent : (f : Fields) (o : List ℕ) (x : ℕ) → ((s : ℕ) → List·Memᴰ s o → getD (f .codes) s 0 ≡ x → ⊥) → count x (codesOf (gather f o)) ≡ 0
@@ -59,32 +47,13 @@ codes-once f (s ∷ o) h d x =
     omega (arith, codes-once f o (λ u. omega (arith, h u)) (λ a b m n. d a b (later a m) (later b n)) x))
 
 module _ {h : Head} {nx pv st o free : List ℕ} (l : Linked h nx pv st o free []) where
-  -- the order is what the table's walk says
-  pub order-walked : o ≡ walk nx (h .front .0) (h .live)
-  order-walked = list.order-is l ∙ walks (h .live) (h .front .0) nx
-
-  pub slot-below : (s : ℕ) → List·Memᴰ s o → s < h .slots
-  slot-below s m = in-slots l s (omega (arith, member-counted s o m))
-
   pub slot-once : (u : ℕ) → count u o ≤ 1
   slot-once u = omega (arith, once l u)
 
   -- what the weights' walk needs
   pub walk-carried : (f : Fields) → Reach (h .slots) f → Carried (f .weights) nx (walk nx (h .front .0) (h .live))
   walk-carried f r =
-      subst (Carried (f .weights) nx) order-walked (record {
-        weight = λ s m. omega (arith, slot-below s m, r .weights);
-        link = λ s m. omega (arith, slot-below s m, l .long .nexts);
-      })
-
-  -- what the table's inspection needs
-  pub walk-listed : (f : Fields) (cells : List ℕ) → Reach (h .slots) f → 1 ≤ h .slots → 2 * h .slots ≤ length cells
-      → Listed (h .slots) cells (f .codes) nx (walk nx (h .front .0) (h .live))
-  walk-listed f cells r some wide =
-      subst (Listed (h .slots) cells (f .codes) nx) order-walked (record {
-        wide = wide;
-        room = omega (arith, l .size, l .fit);
-        coded = λ s m. (omega (arith, slot-below s m, r .codes), λ q. omega (arith, slot-below s m, l .long .small));
-        linked = λ s m. omega (arith, slot-below s m, l .long .nexts);
-        once = distinct o slot-once;
+      subst (Carried (f .weights) nx) (order-walked l) (record {
+        weight = λ s m. omega (arith, slot-below l s m, r .weights);
+        link = λ s m. omega (arith, slot-below l s m, l .long .nexts);
       })

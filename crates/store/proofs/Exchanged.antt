@@ -86,7 +86,7 @@ module _ (order : List ℕ) (i s : ℕ) (o : only i order ≡ s ∷ []) (once : 
   }
 
 -- the code of a slot of the order is one of the codes
-code-counted : (f : Fields) (u : ℕ) (order : List ℕ) → 1 ≤ count u order → 1 ≤ count (getD (f .codes) u 0) (codesOf (gather f order))
+pub code-counted : (f : Fields) (u : ℕ) (order : List ℕ) → 1 ≤ count u order → 1 ≤ count (getD (f .codes) u 0) (codesOf (gather f order))
 code-counted f u [] h = absurd (omega arith)
 code-counted f u (x ∷ xs) h =
     ⊎-elim

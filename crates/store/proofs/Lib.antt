@@ -7,3 +7,5 @@ pub mod Emptied
 pub mod Writing
 pub mod Evicting
 pub mod Settled
+pub mod Walked
+pub mod Resizing

@@ -10,6 +10,8 @@ use Rattle.head.specs.Tails.{Tail}
 use Rattle.model.specs.Lists.{only}
 use Rattle.model.specs.Moves.{drop}
 use Rattle.model.specs.Perform.{Cache}
+use Rattle.model.specs.Claims.{spent}
+use Rattle.head.specs.Bounds.{mostCapacity}
 use Rattle.crc.specs.Home.{homeOf}
 use Rattle.list.specs.Links.{Long, Linked}
 use Rattle.table.specs.Sound.{Sound}
@@ -17,7 +19,7 @@ use Rattle.head.specs.Fields.{Fields, Reach}
 use Rattle.store.specs.State.{entryIn, blank, Describes}
 use Rattle.model.specs.Codes.{count, codesOf}
 use Rattle.model.proofs.Lawful.{Takes}
-use Rattle.store.specs.Caches.{after, added, shed}
+use Rattle.store.specs.Caches.{after, added, shed, capped}
 
 -- all four lists have a slot
 pub record Writable (s : ℕ) (f : Fields) : Type 0 where
@@ -100,3 +102,15 @@ pub record Emptied (h : Head) (f : Fields) (nx pv st cells : List ℕ) (r : Head
   pub linked : Linked r nx' pv' st' [] [] []
   pub blanks : (u : ℕ) → u < h .slots → entryIn g u ≡ blank
   pub table : Sound (homeOf (h .slots)) (2 * h .slots) cells' (g .codes) []
+
+-- some cache is described whose entries a capacity holds
+pub record Holds (h : Head) (f : Fields) (nx pv st cells : List ℕ) (n : ℕ) : Type 0 where
+  pub cache : Cache
+  pub described : Describes h f nx pv st cells cache
+  pub allowed : (1 ≤ n) × (n ≤ mostCapacity)
+  pub fits : spent (cache .desk .entries) ≤ n
+
+-- the capacity is n
+pub record Capped (h : Head) (f : Fields) (nx pv st cells : List ℕ) (r : Head) (g : Fields) (nx' pv' st' cells' : List ℕ) (n : ℕ) : Type 0 where
+  pub tails : Tails (h .slots) f nx pv st cells g nx' pv' st' cells'
+  pub described : (c : Cache) → spent (c .desk .entries) ≤ n → Describes h f nx pv st cells c → Describes r g nx' pv' st' cells' (capped n c)

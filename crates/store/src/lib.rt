@@ -8,7 +8,7 @@ ghost use Prim.Native.Nat.{_+_, _*_, _≤_, _<_};
 ghost use lib.ListN.{length, drop, set, replicate};
 ghost use mathlib.Core.List.{_++_};
 ghost use Rattle.store.specs.State.{fields};
-ghost use Rattle.store.specs.Acts.{Writable, Wrote, Occupied, Dropped, Admits, Added, Rich, Shed, Spacious, Emptied};
+ghost use Rattle.store.specs.Acts.{Writable, Wrote, Occupied, Dropped, Admits, Added, Rich, Shed, Spacious, Emptied, Holds, Capped};
 
 // Writes an entry into a slot.
 pub fn write(
@@ -171,4 +171,41 @@ pub fn empty(
     table::clear(cells, m);
     let r = list::clear(head, next, prev, stack);
     r.with_weight(0)
+}
+
+// Sets the capacity. A smaller one puts the entry at place i in slot i, fields and all, and makes the table anew; any other moves nothing.
+pub fn resize(
+    head: Head,
+    codes: &mut [u64],
+    stamps: &mut [u32],
+    values: &mut [u64],
+    weights: &mut [u64],
+    next: &mut [u32],
+    prev: &mut [u32],
+    stack: &mut [u32],
+    cells: &mut [u32],
+    capacity: u64,
+) -> Head
+    requires { ⌜ Holds head (fields (now codes) (now stamps) (now values) (now weights)) (now next) (now prev) (now stack) (now cells) capacity ⌝ }
+    ensures { λ r. ⌜ Capped head (fields (now (codes .entry)) (now (stamps .entry)) (now (values .entry)) (now (weights .entry))) (now (next .entry)) (now (prev .entry)) (now (stack .entry)) (now (cells .entry)) r (fields (now (codes .exit)) (now (stamps .exit)) (now (values .exit)) (now (weights .exit))) (now (next .exit)) (now (prev .exit)) (now (stack .exit)) (now (cells .exit)) capacity ⌝ }
+{
+    let n = head.slots as usize;
+    let old = head.capacity;
+    let r = compact::resize(
+        head,
+        next,
+        prev,
+        stack,
+        codes,
+        stamps,
+        values,
+        weights,
+        capacity,
+    );
+    if capacity < old {
+        let front = r.front;
+        table::rebuild(cells, codes, next, n, front, r.live);
+        return r;
+    }
+    r
 }
