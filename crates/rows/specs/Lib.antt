@@ -1,0 +1,3 @@
+pub mod Views
+pub mod Written
+pub mod Answers
