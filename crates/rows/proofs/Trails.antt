@@ -99,13 +99,16 @@ pub only-end : {A : Type 0} (l : List A) → only (length l) l ≡ []
 only-end [] = refl
 only-end (x ∷ xs) = only-end xs
 
+-- as many as there are to take
+pub oldest-length : {A : Type 0} (k : ℕ) (xs : List A) → k ≤ length xs → length (oldest k xs) ≡ k
+oldest-length k xs h = omega (arith, length-reverse (drop (length xs - k) xs), length-drop (length xs - k) xs)
+
 pub oldest-take : {A : Type 0} (k : ℕ) (xs : List A) → k ≤ length xs → oldest k xs ≡ take k (reverse xs)
 oldest-take {A} k xs h =
     let n = length xs - k in
     let whole : reverse xs ≡ reverse (drop n xs) ++ reverse (take n xs) =
     ap reverse (sym (take-append-drop n xs)) ∙ reverse-append (take n xs) (drop n xs) in
-    let size : length (reverse (drop n xs)) ≡ k = omega (arith, length-reverse (drop n xs), length-drop n xs) in
-    sym (ap (take k) whole ∙ take-at (reverse (drop n xs)) (reverse (take n xs)) k size)
+    sym (ap (take k) whole ∙ take-at (reverse (drop n xs)) (reverse (take n xs)) k (oldest-length k xs h))
 
 -- ---- the walk
 

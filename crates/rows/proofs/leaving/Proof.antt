@@ -1,7 +1,7 @@
 -- `rows::leaving` meets its contract: the loop of `proofs/Dropping.antt`. The measure is what is left, which falls by a cost of one or more.
 -- Assumes nothing.
 use native.Mathlib.Omega.{arith}
-use Rattle.rows.proofs.Dropping.{Dropping, drop-start, drop-inside, drop-ready, drop-step, drop-end, budget-countable, budget-stocked}
+use Rattle.rows.proofs.Dropping.{Dropping, Ready, drop-start, drop-inside, drop-ready, drop-step, drop-end, budget-countable, budget-stocked}
 use Rattle.rows.proofs.leaving.Statement.{statement}
 use Rattle.rows.proofs.leaving.Tie as tie
 
@@ -21,6 +21,11 @@ loop-holds c = drop-start _ _ _ _ _ _
 past-requires : tie.Need-past-requires Inv-loop μ-loop
 past-requires c κs = drop-inside (c .before .loop .inv) (budget-stocked (c .before .before .before .before .before .before .pre) (c .before .before .before .taken-up .ensures)) (c .loop-test .taken)
 
+-- what the body reads at the slot that it came to
+ready : (c : tie.After-past Inv-loop μ-loop)
+    → Ready (c .before .before .before .before .before .before .before .args .weights .now) (c .before .before .before .before .before .before .before .args .prev .now) (c .before .before .loop .left) (c .before .before .loop .k) (c .past .result .0)
+ready c = drop-ready (c .before .before .loop .inv) (budget-stocked (c .before .before .before .before .before .before .before .pre) (c .before .before .before .before .taken-up .ensures)) _ (c .before .loop-test .taken) (c .past .ensures)
+
 cast-i : tie.Need-cast-i Inv-loop μ-loop
 cast-i c = omega arith
 
@@ -28,22 +33,22 @@ mul-left : tie.Need-mul-left Inv-loop μ-loop
 mul-left c = omega arith
 
 shared-slice-read-left : tie.Need-shared-slice-read-left Inv-loop μ-loop
-shared-slice-read-left c = drop-ready (c .before .before .before .before .loop .inv) (budget-stocked (c .before .before .before .before .before .before .before .before .before .pre) (c .before .before .before .before .before .before .taken-up .ensures)) _ (c .before .before .before .loop-test .taken) (c .before .before .past .ensures) .weighs
+shared-slice-read-left c = ready (c .before .before) .weighs
 
 add-left : tie.Need-add-left Inv-loop μ-loop
-add-left c = let r = drop-ready (c .before .before .before .before .loop .inv) (budget-stocked (c .before .before .before .before .before .before .before .before .before .pre) (c .before .before .before .before .before .before .taken-up .ensures)) _ (c .before .before .before .loop-test .taken) (c .before .before .past .ensures) in omega (arith, r .cost, r .small)
+add-left c = let r = ready (c .before .before) in omega (arith, r .cost, r .small)
 
 sub-left : tie.Need-sub-left Inv-loop μ-loop
-sub-left c = omega (arith, drop-ready (c .before .before .before .before .loop .inv) (budget-stocked (c .before .before .before .before .before .before .before .before .before .pre) (c .before .before .before .before .before .before .taken-up .ensures)) _ (c .before .before .before .loop-test .taken) (c .before .before .past .ensures) .cost)
+sub-left c = omega (arith, ready (c .before .before) .cost)
 
 ahead-requires : tie.Need-ahead-requires Inv-loop μ-loop
-ahead-requires c κs = drop-ready (c .before .before .before .before .loop .inv) (budget-stocked (c .before .before .before .before .before .before .before .before .before .pre) (c .before .before .before .before .before .before .taken-up .ensures)) _ (c .before .before .before .loop-test .taken) (c .before .before .past .ensures) .links
+ahead-requires c κs = ready (c .before .before) .links
 
 add-k : tie.Need-add-k Inv-loop μ-loop
-add-k c = omega (arith, drop-ready (c .before .before .before .before .before .loop .inv) (budget-stocked (c .before .before .before .before .before .before .before .before .before .before .pre) (c .before .before .before .before .before .before .before .taken-up .ensures)) _ (c .before .before .before .before .loop-test .taken) (c .before .before .before .past .ensures) .few)
+add-k c = omega (arith, ready (c .before .before .before) .few)
 
 loop-less : tie.Need-loop-less Inv-loop μ-loop
-loop-less c = omega (arith, drop-ready (c .before .before .before .before .before .loop .inv) (budget-stocked (c .before .before .before .before .before .before .before .before .before .before .pre) (c .before .before .before .before .before .before .before .taken-up .ensures)) _ (c .before .before .before .before .loop-test .taken) (c .before .before .before .past .ensures) .cost)
+loop-less c = omega (arith, ready (c .before .before .before) .cost)
 
 loop-again : tie.Need-loop-again Inv-loop μ-loop
 loop-again c = drop-step (c .before .before .before .before .before .loop .inv) _ _ (c .before .before .before .before .loop-test .taken) (c .before .before .before .past .ensures) (c .ahead .ensures)
