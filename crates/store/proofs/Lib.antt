@@ -9,3 +9,4 @@ pub mod Evicting
 pub mod Settled
 pub mod Walked
 pub mod Resizing
+pub mod Searching
