@@ -1,0 +1,4 @@
+// The short run, for the interpreter too: 400 turns.
+fn main() {
+    compact_drive::drive(400);
+}
