@@ -1,0 +1,4 @@
+// The short run, for the interpreter too.
+fn main() {
+    damage_check::drive(1, 30);
+}
