@@ -1,4 +1,5 @@
 pub mod Sums
+pub mod Walking
 pub mod Blanks
 pub mod Orders
 pub mod Numbers

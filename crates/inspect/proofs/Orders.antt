@@ -1,8 +1,8 @@
--- What the order that sound links walk gives: no code twice, and weights that a walk can read.
+-- What the order that sound links walk gives: no code twice.
 -- Assumes nothing.
 use Prim.Native.Nat.{ℕ, _≤_}
 use mathlib.Core.List.{List, [], _∷_, List·Memᴰ}
-use mathlib.Core.Path.{_≡_, refl, sym, ap, _∙_, subst}
+use mathlib.Core.Path.{_≡_, refl, sym, ap, _∙_}
 use native.Mathlib.Omega.{arith}
 use lib.Dec.{eqb}
 use lib.ListN.{getD}
@@ -12,14 +12,10 @@ use Rattle.model.specs.Codes.{one, count, codesOf}
 use Rattle.model.proofs.Cases.{split}
 use Rattle.list.specs.Links.{Linked}
 use Rattle.list.proofs.Marks.{hit}
-use Rattle.list.proofs.Unique as list
 use Rattle.list.proofs.Within.{once}
-use Rattle.table.specs.Links.{walk}
-use Rattle.head.specs.Fields.{Fields, Reach}
+use Rattle.head.specs.Fields.{Fields}
 use Rattle.store.specs.State.{gather}
-use Rattle.store.proofs.Walked.{order-walked, slot-below}
 use Rattle.store.proofs.Members.{counted-member, member-counted}
-use Rattle.inspect.specs.Tests.{Carried}
 
 -- a code that no slot of the order has
 code-absent : (f : Fields) (o : List ℕ) (x : ℕ) → ((s : ℕ) → List·Memᴰ s o → getD (f .codes) s 0 ≡ x → ⊥) → count x (codesOf (gather f o)) ≡ 0
@@ -49,11 +45,3 @@ codes-once f (s ∷ o) h d x =
 module _ {h : Head} {nx pv st o free : List ℕ} (l : Linked h nx pv st o free []) where
   pub slot-once : (u : ℕ) → count u o ≤ 1
   slot-once u = omega (arith, once l u)
-
-  -- what the weights' walk needs
-  pub walk-carried : (f : Fields) → Reach (h .slots) f → Carried (f .weights) nx (walk nx (h .front .0) (h .live))
-  walk-carried f r =
-      subst (Carried (f .weights) nx) (order-walked l) (record {
-        weight = λ s m. omega (arith, slot-below l s m, r .weights);
-        link = λ s m. omega (arith, slot-below l s m, l .long .nexts);
-      })

@@ -1,13 +1,15 @@
 -- The tests that decide, beside those of links and table, whether head and lists describe a cache, as the code runs them.
 -- Assumes nothing.
-use Prim.Native.Nat.{ℕ, _-_, _*_, _<_}
+use Prim.Native.Nat.{ℕ, zero, suc, _-_, _*_, _≤_}
 use mathlib.Core.Bool.{Bool, true, cond, _&&_}
-use mathlib.Core.List.{List, [], _∷_, List·Memᴰ}
-use lib.Dec.{eqb, leb}
+use mathlib.Core.List.{List}
+use lib.Dec.{eqb, ltb, leb}
 use lib.ListN.{length, getD}
 use Rattle.head.specs.declared.Head.{Head}
-use Rattle.head.specs.Bounds.{plainKind, unusedMark, allowed}
+use Rattle.head.specs.Bounds.{plainKind, noneMark, unusedMark, allowed}
 use Rattle.head.specs.Fields.{Fields}
+use Rattle.crc.specs.Home.{homeOf}
+use Rattle.table.specs.Acts.{standing}
 
 -- the head's numbers are as opening allows, live + weight is at most the capacity, and a plain cache weighs nothing
 unfoldable pub headOk : Head → Bool
@@ -21,15 +23,26 @@ headOk h =
 unfoldable pub reachOk : ℕ → ℕ → ℕ → ℕ → ℕ → ℕ → Bool
 reachOk n a b c d e = leb n a && (leb n b && (leb n c && (leb n d && leb (2 * n) e)))
 
--- every slot of an order has a weight and a link
-pub record Carried (weights next order : List ℕ) : Type 0 where
-  pub weight : (s : ℕ) → List·Memᴰ s order → s < length weights
-  pub link : (s : ℕ) → List·Memᴰ s order → s < length next
+-- k slots from cur on, each below top, linked back to the one before, no heavier than what is left, and passing a test, end at back with nothing left
+unfoldable pub slotsOk : List ℕ → List ℕ → List ℕ → (ℕ → Bool) → ℕ → ℕ → ℕ → ℕ → ℕ → ℕ → Bool
+slotsOk nx pv ws test top back zero last left cur = eqb cur noneMark && (eqb last back && eqb left 0)
+slotsOk nx pv ws test top back (suc k) last left cur =
+    ltb cur top
+    && (eqb (getD pv cur 0) last
+    && (leb (getD ws cur 0) left
+    && (test cur && slotsOk nx pv ws test top back k cur (left - getD ws cur 0) (getD nx cur 0))))
 
--- the weights of an order's slots, taken off one after another, leave nothing
-unfoldable pub sumOk : List ℕ → List ℕ → ℕ → Bool
-sumOk weights [] left = eqb left 0
-sumOk weights (s ∷ order) left = leb (getD weights s 0) left && sumOk weights order (left - getD weights s 0)
+-- the live slots of a head, from its front on, where the test is that the search for a slot's code ends at that slot
+abbrev pub liveOk : Head → List ℕ → List ℕ → List ℕ → List ℕ → List ℕ → Bool
+liveOk h codes ws nx pv cells =
+    slotsOk nx pv ws (standing (homeOf (h .slots)) (2 * h .slots) cells codes) (h .top .0) (h .back .0) (h .live) noneMark (h .weight) (h .front .0)
+
+-- slots below top have a code, a weight and links
+pub record Reads (top : ℕ) (cs ws nx pv : List ℕ) : Type 0 where
+  pub codes : top ≤ length cs
+  pub weights : top ≤ length ws
+  pub nexts : top ≤ length nx
+  pub prevs : top ≤ length pv
 
 -- a slot with the unused mark has four zeros
 unfoldable pub blankOk : Fields → List ℕ → ℕ → Bool

@@ -1,15 +1,16 @@
 // Whether a head and its lent lists describe a cache: the test at the door, on any numbers, in lists of any length.
 use head::Head;
+use head::Slot;
 ghost use mathlib.Core.Path.{_≡_};
-ghost use Prim.Native.Nat.{_≤_, _<_};
+ghost use Prim.Native.Nat.{_*_, _≤_, _<_};
 ghost use lib.ListN.{length};
 ghost use Rattle.list.specs.Inspect.{allFrom};
-ghost use Rattle.table.specs.Links.{walk};
+ghost use Rattle.table.specs.Sound.{Open};
 ghost use Rattle.table.specs.Acts.{Decides};
 ghost use Rattle.head.specs.Fields.{Reach};
 ghost use Rattle.store.specs.State.{Whole, fields};
 ghost use Rattle.store.specs.Acts.{Writable};
-ghost use Rattle.inspect.specs.Tests.{headOk, reachOk, Carried, sumOk, blankOk};
+ghost use Rattle.inspect.specs.Tests.{headOk, reachOk, Reads, liveOk, blankOk};
 
 // Whether the head's numbers fit each other.
 fn head_ok(head: Head) -> bool
@@ -58,23 +59,52 @@ fn lists_reach(
     2 * m <= cells
 }
 
-// Whether the live slots that the links walk from front on weigh so much together. What is left is kept, so that no sum wraps.
-fn weights_ok(weights: &[u64], next: &[u32], front: u32, live: u32, weight: u64) -> bool
-    requires { ⌜ Carried (now weights) (now next) (walk (now next) front live) ⌝ }
-    ensures { λ r. ⌜ r ≡ sumOk (now (weights .entry)) (walk (now (next .entry)) front live) weight ⌝ }
+// Walks the live slots once, from front to back: each is linked back to the one before, its weight comes off what is left, so that no sum
+// wraps, and the search for its code ends at it.
+fn live_ok(
+    head: Head,
+    codes: &[u64],
+    weights: &[u64],
+    next: &[u32],
+    prev: &[u32],
+    cells: &[u32],
+) -> bool
+    requires { ⌜ Open (2 * head .slots) (now cells) (now codes) ⌝ }
+    requires { ⌜ Reads (head .top .0) (now codes) (now weights) (now next) (now prev) ⌝ }
+    ensures { λ r. ⌜ r ≡ liveOk head (now (codes .entry)) (now (weights .entry)) (now (next .entry)) (now (prev .entry)) (now (cells .entry)) ⌝ }
 {
-    let mut cur = front;
-    let mut more = live;
-    let mut left = weight;
+    let n = head.slots as usize;
+    let top = head.top.0;
+    let back = head.back.0;
+    let mut more = head.live;
+    let mut last = Head::NONE;
+    let mut left = head.weight;
+    let mut cur = head.front.0;
     while 0 < more {
+        if top <= cur {
+            return false;
+        }
         let s = cur as usize;
+        if prev[s] != last {
+            return false;
+        }
         let w = weights[s];
         if left < w {
             return false;
         }
+        if !table::stands(cells, codes, n, Slot(cur)) {
+            return false;
+        }
         left -= w;
+        last = cur;
         cur = next[s];
         more -= 1;
+    }
+    if cur != Head::NONE {
+        return false;
+    }
+    if last != back {
+        return false;
     }
     left == 0
 }
@@ -129,7 +159,7 @@ fn blanks_ok(
     true
 }
 
-// Whether head and lists describe a cache, whatever they hold. One search for each entry, else some 7N steps at most, and no list of its own.
+// Whether head and lists describe a cache, whatever they hold. One walk over the live slots with one search for each, some 5N plain steps besides, and no list of its own.
 pub fn inspect(
     head: Head,
     codes: &[u64],
@@ -143,8 +173,8 @@ pub fn inspect(
 ) -> bool
     ensures { λ r. ⌜ Decides r (Whole head (fields (now (codes .entry)) (now (stamps .entry)) (now (values .entry)) (now (weights .entry))) (now (next .entry)) (now (prev .entry)) (now (stack .entry)) (now (cells .entry))) ⌝ }
 {
-    let front = head.front;
     let n = head.slots;
+    let top = head.top.0;
     if !head_ok(head) {
         return false;
     }
@@ -158,14 +188,20 @@ pub fn inspect(
     ) {
         return false;
     }
-    if !list::inspect_links(head, next, prev, stack) {
+    if !list::numbers_ok(head, next.len(), prev.len(), stack.len()) {
         return false;
     }
-    if !weights_ok(weights, next, front.0, head.live, head.weight) {
+    if !table::as_many(cells, n as usize, codes.len(), head.live) {
         return false;
     }
-    if !blanks_ok(codes, stamps, values, weights, next, n) {
+    if !live_ok(head, codes, weights, next, prev, cells) {
         return false;
     }
-    table::inspect_cells(cells, codes, next, n as usize, front, head.live)
+    if !list::cells_ok(next, prev, stack, head.depth.0, top, n) {
+        return false;
+    }
+    if !list::bare_ok(next, prev, top, n) {
+        return false;
+    }
+    blanks_ok(codes, stamps, values, weights, next, n)
 }

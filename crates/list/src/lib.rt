@@ -257,7 +257,7 @@ fn cell_ok(next: &[u32], prev: &[u32], stack: &[u32], depth: u32, top: u32, k: u
 }
 
 // Whether each of the stack's first n places is right.
-fn cells_ok(next: &[u32], prev: &[u32], stack: &[u32], depth: u32, top: u32, n: u32) -> bool
+pub fn cells_ok(next: &[u32], prev: &[u32], stack: &[u32], depth: u32, top: u32, n: u32) -> bool
     requires { ⌜ (n ≤ length (now stack)) × (top ≤ length (now next)) × (top ≤ length (now prev)) ⌝ }
     ensures { λ r. ⌜ r ≡ allFrom n 0 (cellOk (now (next .entry)) (now (prev .entry)) (now (stack .entry)) depth top) ⌝ }
 {
@@ -272,7 +272,7 @@ fn cells_ok(next: &[u32], prev: &[u32], stack: &[u32], depth: u32, top: u32, n: 
 }
 
 // Whether each slot from top up to n is bare.
-fn bare_ok(next: &[u32], prev: &[u32], top: u32, n: u32) -> bool
+pub fn bare_ok(next: &[u32], prev: &[u32], top: u32, n: u32) -> bool
     requires { ⌜ (top ≤ n) × (n ≤ length (now next)) × (n ≤ length (now prev)) ⌝ }
     ensures { λ r. ⌜ r ≡ allFrom (n - top) top (bareOk (now (next .entry)) (now (prev .entry))) ⌝ }
 {
@@ -312,7 +312,7 @@ fn walk_ok(next: &[u32], prev: &[u32], top: u32, back: u32, live: u32, front: u3
 }
 
 // Whether the head's numbers fit each other, and lists of lengths a, b and c.
-fn numbers_ok(head: Head, a: usize, b: usize, c: usize) -> bool
+pub fn numbers_ok(head: Head, a: usize, b: usize, c: usize) -> bool
     ensures { λ r. ⌜ r ≡ numbersOk head a b c ⌝ }
 {
     let n = head.slots as usize;

@@ -11,16 +11,15 @@ use lib.ListN.{length, getD, take, set, length-set}
 use lib.Seq.{getD-take, length-take-le, getD-set-other}
 use Rattle.head.specs.declared.Slot.{Slot}
 use Rattle.table.specs.declared.Search.the-variants.{Found}
-use Rattle.table.specs.declared.Tally.{Tally}
-use Rattle.table.specs.declared.Tally.the-variants.{All, Stray}
+use Rattle.table.specs.declared.Tally.the-variants.{All}
 use Rattle.head.specs.Bounds.{noneMark}
 use Rattle.table.specs.Cells.{slotOf, lookup}
 use Rattle.table.specs.Sound.{Distinct, Run, In, Open, Sound}
 use Rattle.table.specs.Links.{walk, Listed}
-use Rattle.table.specs.Acts.{Decides, filled, tallied, standing, allStanding}
+use Rattle.table.specs.Acts.{Decides, filled, tallied, counts, standing, allStanding}
 use Rattle.table.proofs.Ring.{and-both, eq-or-ne}
 use Rattle.table.proofs.Count.{filled-none, filled-some, gap}
-use Rattle.table.proofs.Tallies.{tallied-here, tallied-below}
+use Rattle.table.proofs.Tallies.{tallied-here, tallied-below, counts-all, all-counts}
 use Rattle.table.proofs.Answers.{named, names-found}
 use Rattle.table.proofs.Found.{found-at, lookup-cases, few, sound-open, empty-absent, live-found}
 
@@ -75,6 +74,12 @@ counted-open {m} {cells} w r s =
     let g = gap (take m cells) (omega arith) in
     let l : g .0 < m = omega (arith, g .1) in
     record { wide = w; gap = g .0; gap-in = l; gap-none = sym (getD-take m cells (g .0) 0 l) ∙ g .2; slots = s }
+
+-- as many full cells as slots are live, and fewer than cells: a search ends
+pub counts-open : {m : ℕ} {cells codes : List ℕ} (live : ℕ) → m ≤ length cells → live < m → counts live (tallied (length codes) (take m cells)) ≡ true → Open m cells codes
+counts-open {m} {cells} {codes} live w r e =
+    let b = tallied-below (length codes) m cells w (counts-all live (tallied (length codes) (take m cells)) e) in
+    counted-open w (omega (arith, b .0)) (b .1)
 
 module _ {home : ℕ → ℕ} {m : ℕ} {cells codes order : List ℕ} (room : length order < m) (hb : (c : ℕ) → home c < m) (d : Distinct order)
     (real : (s : ℕ) → List·Memᴰ s order → (s < length codes) × (s ≢ noneMark)) where
@@ -241,24 +246,17 @@ module _ {home : ℕ → ℕ} {n : ℕ} {cells codes next order : List ℕ} (hb 
           found = standing-all hb cells codes tallied-open order e;
         })
 
-  -- ---- the answers of `inspect_cells`
+  -- ---- the answers of `inspect_cells`, where so many slots are live
 
-  pub inspect-stray : {t : Tally} → t ≡ tallied (length codes) (take (2 * n) cells) → t ≡ Stray → Decides false (Sound home (2 * n) cells codes order)
-  inspect-stray q e =
-      record {
-        yes = λ z. absurd (false≢true z);
-        no = λ d. let w : Stray ≡ All (length order) = sym e ∙ q ∙ sound-tallied d in let z : _≡_ {A = ℕ} 0 1 = cc in absurd (omega arith);
-      }
+  module _ {live : ℕ} (many : length order ≡ live) where
+    pub sound-counts : Sound home (2 * n) cells codes order → counts live (tallied (length codes) (take (2 * n) cells)) ≡ true
+    sound-counts d = all-counts live (tallied (length codes) (take (2 * n) cells)) (sound-tallied d ∙ ap (λ (x : ℕ). All x) many)
 
-  pub inspect-count : {t : Tally} {k live : ℕ} → t ≡ tallied (length codes) (take (2 * n) cells) → t ≡ All k → length order ≡ live → k ≢ live → Decides false (Sound home (2 * n) cells codes order)
-  inspect-count {t} {k} q e f ne =
-      record {
-        yes = λ z. absurd (false≢true z);
-        no = λ d. let w : All k ≡ All (length order) = sym e ∙ q ∙ sound-tallied d in let z : k ≡ length order = cc in absurd (ne (z ∙ f));
-      }
+    pub inspect-count : counts live (tallied (length codes) (take (2 * n) cells)) ≡ false → Decides false (Sound home (2 * n) cells codes order)
+    inspect-count e = record { yes = λ z. absurd (false≢true z); no = λ d. sym e ∙ sound-counts d }
 
-  pub inspect-passed : {t : Tally} {k live : ℕ} → t ≡ tallied (length codes) (take (2 * n) cells) → t ≡ All k → length order ≡ live → k ≡ live → tallied (length codes) (take (2 * n) cells) ≡ All (length order)
-  inspect-passed q e f g = sym q ∙ e ∙ ap (λ (x : ℕ). All x) (g ∙ sym f)
+    pub inspect-passed : counts live (tallied (length codes) (take (2 * n) cells)) ≡ true → tallied (length codes) (take (2 * n) cells) ≡ All (length order)
+    inspect-passed e = counts-all live (tallied (length codes) (take (2 * n) cells)) e ∙ ap (λ (x : ℕ). All x) (sym many)
 
   pub inspect-rest : {b : Bool} → tallied (length codes) (take (2 * n) cells) ≡ All (length order) → b ≡ allStanding home (2 * n) cells codes order → Decides b (Sound home (2 * n) cells codes order)
   inspect-rest p e = record { yes = λ z. tested-sound p (sym e ∙ z); no = λ d. e ∙ sound-standing d }

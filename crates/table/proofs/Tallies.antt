@@ -1,20 +1,21 @@
 -- The count of the cells that are not empty: the loop of `count_full`, and what its answer says.
 -- Assumes nothing.
 use mathlib.Core.Path.{_≡_, refl, sym, ap, _∙_, subst}
-use mathlib.Core.Bool.{Bool, true, false, cond, _&&_, _||_}
+use mathlib.Core.Bool.{Bool, true, false, cond, _&&_, _||_, false≢true}
 use mathlib.Core.Logic.{_≢_, ⊎-elim}
 use mathlib.Core.List.{List, [], _∷_}
 use Prim.Native.Nat.{ℕ, zero, suc, _+_, _≤_, _<_, zero-le, suc-le-suc}
 use native.Mathlib.Nat.{not-suc-le-zero, le-of-suc-le-suc}
 use native.Mathlib.Numerals.{add-one}
 use native.Mathlib.Omega.{arith}
-use borrow.Author.Tests.{eq-eqb, ne-eqb, lt-ltb, le-ltb}
+use borrow.Author.Tests.{eqb-true, eq-eqb, ne-eqb, lt-ltb, le-ltb}
 use lib.Dec.{eqb, ltb}
 use lib.ListN.{length, getD, take}
 use lib.Seq.{take-suc, getD-take, length-take-le}
 use Rattle.head.specs.Bounds.{noneMark}
+use Rattle.table.specs.declared.Tally.{Tally}
 use Rattle.table.specs.declared.Tally.the-variants.{All, Stray}
-use Rattle.table.specs.Acts.{filled, allBelow, tallied}
+use Rattle.table.specs.Acts.{filled, allBelow, tallied, counts}
 use Rattle.table.proofs.Ring.{eq-or-ne, lt-or-le}
 use Rattle.table.proofs.Count.{filled-none, filled-some, filled-append}
 
@@ -134,3 +135,24 @@ module _ (top m : ℕ) (cells : List ℕ) (wide : m ≤ length cells) where
           let z : _≡_ {A = ℕ} 0 1 = cc in
           absurd (omega arith))
           (lt-or-le (getD cells p 0) top)
+
+-- ---- a count compared
+
+pub counts-all : (k : ℕ) (t : Tally) → counts k t ≡ true → t ≡ All k
+unfolding counts
+counts-all k (All j) e = ap (λ (x : ℕ). All x) (eqb-true j k e)
+counts-all k Stray e = absurd (false≢true e)
+
+pub all-counts : (k : ℕ) (t : Tally) → t ≡ All k → counts k t ≡ true
+unfolding counts
+all-counts k t e = ap (counts k) e ∙ eq-eqb k k refl
+
+-- the answers of `as_many`, where a count t is to be u
+module _ {t u : Tally} (q : t ≡ u) where
+  pub counts-stray : (k : ℕ) → t ≡ Stray → false ≡ counts k u
+  unfolding counts
+  counts-stray k e = ap (counts k) (sym e ∙ q)
+
+  pub counts-same : {j w k : ℕ} → t ≡ All j → w ≡ k → eqb j w ≡ counts k u
+  unfolding counts
+  counts-same {j} {w} {k} e g = ap (eqb j) g ∙ ap (counts k) (sym e ∙ q)

@@ -1,7 +1,7 @@
 -- What the acts on the table leave, and what the tests of it say.
 -- Assumes nothing.
 use mathlib.Core.Path.{_≡_}
-use mathlib.Core.Bool.{Bool, true, cond, _||_, _&&_}
+use mathlib.Core.Bool.{Bool, true, false, cond, _||_, _&&_}
 use mathlib.Core.Logic.{_≢_}
 use mathlib.Core.List.{List, [], _∷_, _++_, List·Memᴰ}
 use Prim.Native.Nat.{ℕ, zero, suc, _<_}
@@ -84,6 +84,11 @@ allBelow top (x ∷ xs) = (eqb x noneMark || ltb x top) && allBelow top xs
 -- how many cells are not empty, if each of those holds a number below top
 unfoldable pub tallied : ℕ → List ℕ → Tally
 tallied top cells = cond (allBelow top cells) (All (filled cells)) Stray
+
+-- a count says k
+unfoldable pub counts : ℕ → Tally → Bool
+counts k (All j) = eqb j k
+counts k Stray = false
 
 -- the search for a slot's code ends at that slot
 abbrev pub standing : (ℕ → ℕ) → ℕ → List ℕ → List ℕ → ℕ → Bool

@@ -10,7 +10,7 @@ ghost use Rattle.crc.specs.Home.{homeOf};
 ghost use Rattle.table.specs.Cells.{cellAfter, sought};
 ghost use Rattle.table.specs.Sound.{Open, Sound};
 ghost use Rattle.table.specs.Links.{walk, Listed, Keyed};
-ghost use Rattle.table.specs.Acts.{Slotted, Holding, Live, Removed, Rebuilt, Decides, inserted, between, cleared, tallied, standing, allStanding};
+ghost use Rattle.table.specs.Acts.{Slotted, Holding, Live, Removed, Rebuilt, Decides, inserted, between, cleared, tallied, counts, standing, allStanding};
 
 // What a search finds: the slot that has the code and its cell, or the empty cell that ended it. `count` is how many cells were read, that
 // one included.
@@ -197,6 +197,17 @@ pub fn count_full(cells: &[u32], n: usize, top: usize) -> Tally
     Tally::All(k)
 }
 
+// Are as many of the 2n cells full as slots are live, each with a number below top?
+pub fn as_many(cells: &[u32], n: usize, top: usize, live: u32) -> bool
+    requires { ⌜ 2 * n ≤ length (now cells) ⌝ }
+    ensures { λ r. ⌜ r ≡ counts live (tallied top (take (2 * n) (now (cells .entry)))) ⌝ }
+{
+    let Tally::All(full) = count_full(cells, n, top) else {
+        return false;
+    };
+    full == wide(live)
+}
+
 // Does the search for a slot's code end at that slot?
 pub fn stands(cells: &[u32], codes: &[u64], n: usize, slot: Slot) -> bool
     requires { ⌜ Slotted (2 * n) (now cells) (now codes) (slot .0) ⌝ }
@@ -246,11 +257,7 @@ pub fn inspect_cells(
     requires { ⌜ Listed n (now cells) (now codes) (now next) (walk (now next) (front .0) live) ⌝ }
     ensures { λ r. ⌜ Decides r (Sound (homeOf n) (2 * n) (now (cells .entry)) (now (codes .entry)) (walk (now (next .entry)) (front .0) live)) ⌝ }
 {
-    let Tally::All(full) = count_full(cells, n, codes.len()) else {
-        return false;
-    };
-    let want = wide(live);
-    if full != want {
+    if !as_many(cells, n, codes.len(), live) {
         return false;
     }
     all_stand(cells, codes, next, n, front, live)
