@@ -5,8 +5,11 @@ use head::Place;
 use head::Slot;
 use libc::STDOUT_FILENO;
 
-// A state is a sheet of 153 numbers: the head's nine, then eight lists. Each list is lent 16 long, the cells 32.
+// A state is a sheet of 153 numbers: the head's nine, then eight lists. Each list has 16 places, the cells 32. Behind them the sheet says
+// how many of each list's places are lent.
 const SHEET: u64 = 153;
+
+const LISTS: u64 = 8;
 
 const LENT: u64 = 16;
 
@@ -973,7 +976,17 @@ fn set(s: &mut [u64], i: u64, v: u64) {
     }
 }
 
-// The number at a place of a list, 0 past what is lent of it.
+// How many places of a list, by its number 0 to 7, are lent.
+fn lent(s: &[u64], list: u64) -> u64 {
+    at(s, plus(SHEET, list))
+}
+
+// How many places of a list n slots need.
+fn wanted(list: u64, n: u64) -> u64 {
+    pick(list == 7, plus(n, n), n)
+}
+
+// The number at a place of a list, 0 past its places.
 fn of(s: &[u64], list: u64, x: u64) -> u64 {
     if list == CELLS {
         if 2 * LENT <= x {
@@ -988,6 +1001,18 @@ fn of(s: &[u64], list: u64, x: u64) -> u64 {
 }
 
 // ---- the plain check
+
+// Whether each list is lent long enough.
+fn long_ok(s: &[u64], n: u64) -> bool {
+    let mut i: u64 = 0;
+    while i < LISTS {
+        if lent(s, i) < wanted(i, n) {
+            return false;
+        }
+        i += 1;
+    }
+    true
+}
 
 // Kind, capacity and slots as opening allows, the lists long enough, and the totals within the capacity.
 fn bounds_ok(s: &[u64]) -> bool {
@@ -1010,7 +1035,7 @@ fn bounds_ok(s: &[u64]) -> bool {
     if MOST_SLOTS < n {
         return false;
     }
-    if LENT < n {
+    if !long_ok(s, n) {
         return false;
     }
     if c < w {
@@ -1312,7 +1337,7 @@ fn wide_list(s: &[u64], list: u64) -> [u64; 16] {
     let mut out = [0u64; 16];
     let mut i: u64 = 0;
     while i < 16 {
-        store_wide(&mut out, i, of(s, list, i));
+        store_wide(&mut out, i, at(s, plus(list, i)));
         i += 1;
     }
     out
@@ -1322,7 +1347,7 @@ fn short_list(s: &[u64], list: u64) -> [u32; 16] {
     let mut out = [0u32; 16];
     let mut i: u64 = 0;
     while i < 16 {
-        store(&mut out, i, of(s, list, i));
+        store(&mut out, i, at(s, plus(list, i)));
         i += 1;
     }
     out
@@ -1332,7 +1357,7 @@ fn cell_list(s: &[u64]) -> [u32; 32] {
     let mut out = [0u32; 32];
     let mut i: u64 = 0;
     while i < 32 {
-        store_cell(&mut out, i, of(s, CELLS, i));
+        store_cell(&mut out, i, at(s, plus(CELLS, i)));
         i += 1;
     }
     out
@@ -1352,8 +1377,49 @@ fn head_of(s: &[u64]) -> Head {
     }
 }
 
+// The first k of a list, or all of it.
+fn wide_part(list: &[u64], k: u64) -> &[u64] {
+    let e = k as usize;
+    if e <= list.len() {
+        return &list[..e];
+    }
+    list
+}
+
+fn short_part(list: &[u32], k: u64) -> &[u32] {
+    let e = k as usize;
+    if e <= list.len() {
+        return &list[..e];
+    }
+    list
+}
+
+// Asks with as much of each list as the sheet lends.
+fn asked(
+    s: &[u64],
+    codes: &[u64],
+    stamps: &[u32],
+    values: &[u64],
+    weights: &[u64],
+    next: &[u32],
+    prev: &[u32],
+    stack: &[u32],
+    cells: &[u32],
+) -> bool {
+    inspect::inspect(
+        head_of(s),
+        wide_part(codes, lent(s, 0)),
+        short_part(stamps, lent(s, 1)),
+        wide_part(values, lent(s, 2)),
+        wide_part(weights, lent(s, 3)),
+        short_part(next, lent(s, 4)),
+        short_part(prev, lent(s, 5)),
+        short_part(stack, lent(s, 6)),
+        short_part(cells, lent(s, 7)),
+    )
+}
+
 fn inspected(s: &[u64]) -> bool {
-    let head = head_of(s);
     let codes = wide_list(s, CODES);
     let stamps = short_list(s, STAMPS);
     let values = wide_list(s, VALUES);
@@ -1362,8 +1428,8 @@ fn inspected(s: &[u64]) -> bool {
     let prev = short_list(s, PREV);
     let stack = short_list(s, STACK);
     let cells = cell_list(s);
-    inspect::inspect(
-        head,
+    asked(
+        s,
         &codes,
         &stamps,
         &values,
@@ -1385,6 +1451,7 @@ struct Tally {
     wrong_states: u64,
     single: u64,
     double: u64,
+    short: u64,
     sound: u64,
     unsound: u64,
     differ: u64,
@@ -1598,6 +1665,44 @@ fn doubles(s: &mut [u64], pairs: u64, t: Tally) -> Tally {
     r
 }
 
+// Lends each list whole.
+fn lend_all(s: &mut [u64]) {
+    let mut i: u64 = 0;
+    while i < LISTS {
+        set(s, plus(SHEET, i), wanted(i, LENT));
+        i += 1;
+    }
+}
+
+// Lends so much of one list, asks, and lends all of it again.
+fn tried_short(s: &mut [u64], list: u64, k: u64, t: Tally) -> Tally {
+    let i = plus(SHEET, list);
+    set(s, i, k);
+    let mut r = compared(s, t);
+    r.short = more(t.short);
+    set(s, i, wanted(list, LENT));
+    r
+}
+
+// One list as long as the slots need, one shorter, and empty.
+fn cut(s: &mut [u64], list: u64, t: Tally) -> Tally {
+    let k = wanted(list, at(s, SLOTS));
+    let a = tried_short(s, list, k, t);
+    let b = tried_short(s, list, less(k), a);
+    tried_short(s, list, 0, b)
+}
+
+// Each list.
+fn cuts(s: &mut [u64], t: Tally) -> Tally {
+    let mut r = t;
+    let mut i: u64 = 0;
+    while i < LISTS {
+        r = cut(s, i, r);
+        i += 1;
+    }
+    r
+}
+
 // ---- the states
 
 // What stands past the needed places: what would be sound there, or 7.
@@ -1649,12 +1754,18 @@ fn opened(s: &[u64], t: Tally) -> Tally {
     r
 }
 
+// Every damage to the state on the sheet.
+fn damaged(s: &mut [u64], pairs: u64, t: Tally) -> Tally {
+    let a = cuts(s, t);
+    let b = singles(s, a);
+    doubles(s, pairs, b)
+}
+
 // One state, with one kind of tail.
 fn state(s: &mut [u64], blank: bool, pairs: u64, t: Tally) -> Tally {
     let next = laid(s, t.from, blank);
     let a = opened(s, t);
-    let b = singles(s, a);
-    let mut r = doubles(s, pairs, b);
+    let mut r = damaged(s, pairs, a);
     r.from = pick(blank, t.from, next);
     r
 }
@@ -1679,7 +1790,8 @@ fn line(name: &[u8], count: u64) {
 
 // Runs the first so many states, each with two kinds of tail, with so many draws of two numbers, and writes how it went.
 pub fn drive(states: u64, pairs: u64) {
-    let mut s = [0u64; 153];
+    let mut s = [0u64; 161];
+    lend_all(&mut s);
     let start = Tally {
         from: 0,
         seed: 88172645463325252,
@@ -1687,6 +1799,7 @@ pub fn drive(states: u64, pairs: u64) {
         wrong_states: 0,
         single: 0,
         double: 0,
+        short: 0,
         sound: 0,
         unsound: 0,
         differ: 0,
@@ -1694,6 +1807,10 @@ pub fn drive(states: u64, pairs: u64) {
     let t = run(&mut s, states, pairs, start);
     line(b"states", t.states);
     line(b"states that one of the two calls unsound", t.wrong_states);
+    line(
+        b"one list lent to what is needed, one less, and empty",
+        t.short,
+    );
     line(b"one number changed", t.single);
     line(b"two numbers changed", t.double);
     line(b"both say sound", t.sound);
