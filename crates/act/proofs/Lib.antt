@@ -1,0 +1,4 @@
+pub mod Deciding
+pub mod Placing
+pub mod Stepping
+pub mod Handing

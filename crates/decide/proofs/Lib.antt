@@ -1,0 +1,7 @@
+pub mod Leaves
+pub mod Pointing
+pub mod Finding
+pub mod Putting
+pub mod Weighing
+pub mod Ends
+pub mod Arms

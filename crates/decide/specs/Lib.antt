@@ -1,0 +1,3 @@
+pub mod Views
+pub mod Settled
+pub mod Numbers

@@ -1,0 +1,3 @@
+pub mod Considering
+pub mod Serving
+pub mod Beginning
