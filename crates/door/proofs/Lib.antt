@@ -1,3 +1,2 @@
 pub mod Considering
 pub mod Serving
-pub mod Beginning

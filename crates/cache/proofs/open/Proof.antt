@@ -1,13 +1,13 @@
--- `door::open` meets its contract.
+-- `cache::open` meets its contract.
 -- Assumes nothing.
 use mathlib.Core.Path.{refl, sym, _∙_}
 use borrow.Author.Tests.{not-true, not-false}
 use Rattle.head.specs.Fresh.{freshHead}
 use Rattle.plan.specs.States.{state}
-use Rattle.door.proofs.Beginning.{opens-not-allowed, opens-too-short, fresh-spacious, opens-fresh}
+use Rattle.cache.proofs.Beginning.{opens-not-allowed, opens-too-short, fresh-spacious, opens-fresh}
 use borrow.Author.Needs.{needs}
-use Rattle.door.proofs.open.Statement.{statement}
-use Rattle.door.proofs.open.Tie as tie
+use Rattle.cache.proofs.open.Statement.{statement}
+use Rattle.cache.proofs.open.Tie as tie
 
 allows-requires : tie.Need-allows-requires
 allows-requires c κs = search needs

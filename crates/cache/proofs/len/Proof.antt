@@ -1,0 +1,17 @@
+-- `cache::len` meets its contract: it is `door::read` of its command.
+-- Assumes nothing.
+use Rattle.cache.proofs.len.Statement.{statement}
+use Rattle.cache.proofs.len.Tie as tie
+
+read-requires : tie.Need-read-requires
+read-requires c κs = tt
+
+returns : tie.Need-returns
+returns c = c .read .ensures
+
+pub len-spec : {M : Type 1} → statement M
+len-spec =
+    tie.close
+    (tie.spec
+    read-requires
+    returns)
