@@ -427,7 +427,7 @@ fn try_put_or_modify(
         return Decision::refuse(Refusal::WrongKind);
     }
     let Search::Found {
-        slot,
+        slot: found,
         cell: _,
         count: _,
     } = table::look(cells, codes, n, code)
@@ -437,15 +437,15 @@ fn try_put_or_modify(
         }
         return enter(head, room, code, stamp, amount);
     };
-    let i = slot.0 as usize;
+    let i = found.0 as usize;
     let old = values[i];
     if over(old, amount, ceiling) {
         return Decision {
             answer: Answer::No(Refusal::OverCeiling),
-            plan: Plan::Raise(slot),
+            plan: Plan::Raise(found),
         };
     }
-    modify(slot, old, amount)
+    modify(found, old, amount)
 }
 
 fn put_with_weight(

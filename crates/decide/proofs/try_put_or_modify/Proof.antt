@@ -18,8 +18,8 @@ returns c = not-plain _ (c .before .before .before .before .before .before .befo
 look-requires : tie.Need-look-requires
 look-requires c κs = open-valued (c .before .before .before .before .before .before .pre)
 
-enum-known-slot : tie.Need-enum-known-slot
-enum-known-slot c = search needs
+enum-known-found : tie.Need-enum-known-found
+enum-known-found c = search needs
 
 enum-told : tie.Need-enum-told
 enum-told c = search needs
@@ -43,19 +43,19 @@ mul-old : tie.Need-mul-old
 mul-old c = search needs
 
 shared-slice-read-old : tie.Need-shared-slice-read-old
-shared-slice-read-old c = readable (c .before .before .before .before .before .before .before .before .before .before .before .before .args .code .0) (c .before .before .before .before .before .look .ensures) (c .before .before .before .slot .given .1) (c .before .before .before .before .before .before .before .before .before .before .before .before .pre)
+shared-slice-read-old c = readable (c .before .before .before .before .before .before .before .before .before .before .before .before .args .code .0) (c .before .before .before .before .before .look .ensures) (c .before .before .before .found .given .1) (c .before .before .before .before .before .before .before .before .before .before .before .before .pre)
 
 over-requires : tie.Need-over-requires
 over-requires c κs = search needs
 
 returns-4 : tie.Need-returns-4
-returns-4 c = try-found-over (c .before .before .before .before .before .before .before .before .before .before .before .before .before .before .args .code .0) (c .before .before .before .before .before .before .before .look .ensures) (c .before .before .before .before .before .before .before .before .if1 .left) (c .before .before .before .before .before .before .before .before .before .before .before .before .before .before .args .room) (c .before .before .before .before .before .slot .given .1) (c .before .before .before .before .before .before .before .before .before .before .before .before .before .before .args .stamp) (c .before .before .before .before .before .before .before .before .before .before .before .before .before .before .args .amount) (c .before .before .before .before .before .before .before .before .before .before .before .before .before .before .args .ceiling) (c .before .over .ensures) (c .if3 .taken)
+returns-4 c = try-found-over (c .before .before .before .before .before .before .before .before .before .before .before .before .before .before .args .code .0) (c .before .before .before .before .before .before .before .look .ensures) (c .before .before .before .before .before .before .before .before .if1 .left) (c .before .before .before .before .before .before .before .before .before .before .before .before .before .before .args .room) (c .before .before .before .before .before .found .given .1) (c .before .before .before .before .before .before .before .before .before .before .before .before .before .before .args .stamp) (c .before .before .before .before .before .before .before .before .before .before .before .before .before .before .args .amount) (c .before .before .before .before .before .before .before .before .before .before .before .before .before .before .args .ceiling) (c .before .over .ensures) (c .if3 .taken)
 
 modify-requires : tie.Need-modify-requires
 modify-requires c κs = search needs
 
 returns-5 : tie.Need-returns-5
-returns-5 c = try-found (c .before .before .before .before .before .before .before .before .before .before .before .before .before .before .before .args .code .0) (c .before .before .before .before .before .before .before .before .look .ensures) (c .before .before .before .before .before .before .before .before .before .if1 .left) (c .before .before .before .before .before .before .before .before .before .before .before .before .before .before .before .args .room) (c .before .before .before .before .before .before .slot .given .1) (c .before .before .before .before .before .before .before .before .before .before .before .before .before .before .before .args .stamp) (c .before .before .before .before .before .before .before .before .before .before .before .before .before .before .before .args .amount) (c .before .before .before .before .before .before .before .before .before .before .before .before .before .before .before .args .ceiling) (c .before .before .over .ensures) (c .before .if3 .left) (c .modify .ensures)
+returns-5 c = try-found (c .before .before .before .before .before .before .before .before .before .before .before .before .before .before .before .args .code .0) (c .before .before .before .before .before .before .before .before .look .ensures) (c .before .before .before .before .before .before .before .before .before .if1 .left) (c .before .before .before .before .before .before .before .before .before .before .before .before .before .before .before .args .room) (c .before .before .before .before .before .before .found .given .1) (c .before .before .before .before .before .before .before .before .before .before .before .before .before .before .before .args .stamp) (c .before .before .before .before .before .before .before .before .before .before .before .before .before .before .before .args .amount) (c .before .before .before .before .before .before .before .before .before .before .before .before .before .before .before .args .ceiling) (c .before .before .over .ensures) (c .before .if3 .left) (c .modify .ensures)
 
 pub try-put-or-modify-spec : {M : Type 1} → statement M
 try-put-or-modify-spec =
@@ -65,7 +65,7 @@ try-put-or-modify-spec =
     refuse-requires
     returns
     look-requires
-    enum-known-slot
+    enum-known-found
     enum-told
     refuse-requires-2
     returns-2
