@@ -1,0 +1,4 @@
+pub mod Runs
+pub mod Views
+pub mod Counts
+pub mod Demands

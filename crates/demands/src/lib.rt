@@ -1,0 +1,1 @@
+// The crate is its specs and proofs: the demands, stated of the public calls' contracts.
