@@ -45,7 +45,10 @@ requests-same (a ∷ as′) r = (r .0, requests-same as′ (r .1))
 
 new-same : (s : State) (c : Cache) (as′ : List Made) → AsDefined s c as′ → newAnswers as′ ≡ model.newAnswers c (callsOf as′)
 new-same s c [] d = refl
-new-same s c (a ∷ as′) d = rw (d .0 .answer, new-same (a .left) (outcome (a .asked) c .left) as′ (d .1))
+new-same s c (a ∷ as′) d =
+    let here : one (isNew (wordOf (a .answer))) ≡ one (isNew (wordOf (outcome (a .asked) c .answer))) = ap (λ (x : Answer). one (isNew (wordOf x))) (d .0 .answer) in
+    let more = new-same (a .left) (outcome (a .asked) c .left) as′ (d .1) in
+    omega arith
 
 keeps-same : (H : ℕ) (s : State) (c : Cache) (as′ : List Made) (os : List (List ℕ)) → AsDefined s c as′ → Keeps H as′ os → model.Keeps H c (callsOf as′) os
 keeps-same H s c [] [] d k = tt
