@@ -1,21 +1,19 @@
 -- What a run counts on its answers and rows is what the definitions count: so the tally and demand 3 hold of the calls.
 -- Assumes nothing.
-use Prim.Native.Nat.{ℕ, _+_, _-_, _*_, _≤_}
-use mathlib.Core.Bool.{Bool, true, cond, _||_, _&&_}
-use mathlib.Core.List.{List, [], _∷_, _++_}
+use Prim.Native.Nat.{ℕ, _≤_}
+use mathlib.Core.Bool.{Bool, true, cond, _||_}
+use mathlib.Core.List.{List, [], _∷_}
 use mathlib.Core.Path.{_≡_, refl, sym, ap, _∙_, subst}
 use native.Mathlib.Omega.{arith}
-use lib.ListN.{length}
-use borrow.Author.Tests.{leb-true}
 use Rattle.head.specs.Bounds.{plainKind}
 use Rattle.head.specs.declared.Command.{Command}
 use Rattle.head.specs.declared.Command.the-variants.{Len, Capacity, Weight, IsEmpty, IsFull, Front, Back, Peek, Contains, List as ListFront, ListBack, Get, Pop, PopFront, PopBack, Put, PutWithWeight, Clear, Retain, Resize, PutOrModify, TryPutOrModify, GetMut, PeekMut, FrontMut, BackMut}
 use Rattle.head.specs.declared.Answer.{Answer}
-use Rattle.model.specs.Codes.{codesOf, one, has, Rearranged}
+use Rattle.model.specs.Codes.{codesOf, one, has}
 use Rattle.model.specs.Desk.{plain, kindOf}
 use Rattle.model.specs.Perform.{Cache, Outcome, fresh, perform}
 use Rattle.model.specs.Runs as model
-use Rattle.model.specs.Runs.{Call, Sort, plainPut, otherPut, getting, looking, popCode, popEnd, trimming, clearing, another, Word, new, value, sortOf, wordOf, isNew, isValue, Request, brought}
+use Rattle.model.specs.Runs.{Call, Sort, plainPut, otherPut, getting, looking, popCode, popEnd, trimming, clearing, another, new, value, sortOf, wordOf, isNew, isValue, Request}
 use Rattle.model.proofs.Cases.{split}
 use Rattle.model.proofs.Tally.{tally}
 use Rattle.model.proofs.Plain.{Plain, codes, request-asked, put-word, fresh-plain}
@@ -24,7 +22,7 @@ use Rattle.plan.specs.States.{State, Means}
 use Rattle.demands.specs.Runs.{Asked, Made, lent, ending}
 use Rattle.demands.specs.Views.{codesIn, rowsSaid, rowCodes}
 use Rattle.demands.specs.Counts.{leaving, accepted, departed, Requests, newAnswers, Keeps}
-use Rattle.demands.specs.Demands.{outcome, Told, AsDefined, Tallied, Beside, Taken, AllTaken, NoneRefused}
+use Rattle.demands.specs.Demands.{outcome, AsDefined, Tallied, Beside, Taken, AllTaken, NoneRefused}
 use Rattle.demands.proofs.Steps.{order-shown}
 use Rattle.demands.proofs.Openings.{day-fresh, read-off}
 use Rattle.demands.proofs.Rows.{said-rows, written-codes}

@@ -1,11 +1,8 @@
 -- States given by their numbers: whether one is sound is computed, what it means is what it shows, and so contracts are met by computing.
 -- Assumes nothing.
-use Prim.Native.Nat.{ℕ, _-_, _*_}
-use mathlib.Core.Bool.{Bool, true, false, _&&_}
-use mathlib.Core.List.{List, []}
+use Prim.Native.Nat.{ℕ}
+use mathlib.Core.Bool.{Bool, true, _&&_}
 use mathlib.Core.Path.{_≡_, refl, sym, ap, _∙_, subst}
-use native.Mathlib.Omega.{arith}
-use Rattle.head.specs.declared.Row.{Row}
 use Rattle.head.specs.declared.Answer.{Answer}
 use Rattle.head.specs.declared.Command.{Command}
 use Rattle.head.specs.Fields.{Fields}
@@ -16,7 +13,6 @@ use Rattle.list.specs.Inspect.{allFrom}
 use Rattle.inspect.specs.Tests.{headOk, liveOk, blankOk}
 use Rattle.inspect.proofs.Numbers.{lengths}
 use Rattle.inspect.proofs.Decided.{numbersFit, stackFits, restBare, cellsFull, passed-whole}
-use Rattle.store.proofs.Settled.{one-cache}
 use Rattle.rows.specs.Written.{Written}
 use Rattle.plan.specs.States.{State, Means, Sound, TailsKept}
 use Rattle.plan.specs.Plans.{cellsStay}

@@ -6,3 +6,4 @@ pub mod Sameness
 pub mod Computed
 pub mod Sampled
 pub mod Refuted
+pub mod Honest

@@ -1,21 +1,20 @@
 -- A run from opening: the first state means the fresh cache, and every call gives what the definitions say.
 -- Assumes nothing.
 use Prim.Native.Nat.{ℕ}
-use mathlib.Core.Bool.{Bool, true, false, cond, _&&_}
-use mathlib.Core.Path.{_≡_, refl, sym, ap, _∙_}
+use mathlib.Core.Bool.{true, _&&_}
+use mathlib.Core.Path.{_≡_}
 use native.Mathlib.Omega.{arith}
 use Rattle.head.specs.declared.Refusal.the-variants.{NotOpened}
-use Rattle.head.specs.declared.Head.{Head}
 use Rattle.head.specs.Bounds.{allowed}
 use Rattle.model.specs.Desk.{kindOf}
-use Rattle.model.specs.Perform.{Opening, fresh, opening, refused, opened}
+use Rattle.model.specs.Perform.{fresh, opening}
 use Rattle.model.proofs.Cases.{split, both}
 use Rattle.plan.specs.States.{State, Means, TailsKept}
 use Rattle.cache.specs.declared.Opened.{Opened}
-use Rattle.cache.specs.declared.Opened.the-variants.{Cache as Began, No}
+use Rattle.cache.specs.declared.Opened.the-variants.{Cache as Began}
 use Rattle.cache.specs.Begun.{spacious, Opens}
 use Rattle.demands.specs.Runs.{Day}
-use Rattle.demands.specs.Demands.{AsDefined, ReadOff}
+use Rattle.demands.specs.Demands.{ReadOff}
 use Rattle.demands.proofs.Steps.{as-defined}
 
 -- what opening gave

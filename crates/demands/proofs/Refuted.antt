@@ -1,8 +1,8 @@
 -- Each impostor's outcome contradicts the contract.
 -- Assumes nothing.
-use Prim.Native.Nat.{ℕ, _*_, _≤_}
-use mathlib.Core.Bool.{Bool, true, false, true≢false}
-use mathlib.Core.List.{List, [], _∷_}
+use Prim.Native.Nat.{ℕ, _*_}
+use mathlib.Core.Bool.{true≢false}
+use mathlib.Core.List.{[], _∷_}
 use mathlib.Core.Path.{_≡_, refl, sym, ap, _∙_}
 use native.Mathlib.Omega.{arith}
 use lib.ListN.{length}
@@ -14,7 +14,7 @@ use Rattle.head.specs.Fields.{Fields}
 use Rattle.crc.specs.Crc.{shift, shifts, withByte, withBytes, crcOf, bytes}
 use Rattle.crc.specs.Home.{homeOf}
 use Rattle.model.specs.Codes.{codesOf, has}
-use Rattle.model.specs.Perform.{Cache, verdict, perform}
+use Rattle.model.specs.Perform.{verdict, perform}
 use Rattle.list.specs.Inspect.{numbersOk}
 use Rattle.table.specs.Cells.{wrap, ring, stops, past, answer, lookup, sought, countIn}
 use Rattle.table.specs.Links.{walk}
@@ -29,7 +29,7 @@ use Rattle.demands.specs.Samples.{state₂, state₄, row, code}
 use Rattle.demands.specs.Impostors.{RefusesAlways, SaysNew, StoresNothing, EmptiesAll, onlyOne, RemovesNone, InventsCount}
 use Rattle.demands.proofs.Steps.{order-shown}
 use Rattle.demands.proofs.Computed.{shown, means-shown}
-use Rattle.demands.proofs.Sampled.{sound₂, sound₄}
+use Rattle.demands.proofs.Sampled.{sound₂}
 
 module _ (m : Command) (t : State) (rows' : Fields) (a : Answer) (k : Calls m state₂ t (row 0 0) rows' a) where
   -- the contract's answer

@@ -1,8 +1,8 @@
 -- An answer counts the rows that were handed out, so the rows' codes can be read off the row lists.
 -- Assumes nothing.
 use Prim.Native.Nat.{ℕ, suc, _+_, _≤_}
-use mathlib.Core.Bool.{Bool, true, false, cond, _&&_}
-use mathlib.Core.List.{List, [], _∷_, _++_, reverse}
+use mathlib.Core.Bool.{true, _&&_}
+use mathlib.Core.List.{List, [], _∷_}
 use mathlib.Core.Path.{_≡_, refl, sym, ap, _∙_}
 use native.Mathlib.Omega.{arith}
 use lib.Dec.{eqb, leb, ltb}
@@ -16,11 +16,11 @@ use Rattle.head.specs.declared.Command.{Command}
 use Rattle.head.specs.declared.Command.the-variants.{Len, Capacity, Weight, IsEmpty, IsFull, Front, Back, Peek, Contains, List as ListFront, ListBack, Get, Pop, PopFront, PopBack, Put, PutWithWeight, Clear, Retain, Resize, PutOrModify, TryPutOrModify, GetMut, PeekMut, FrontMut, BackMut}
 use Rattle.head.specs.Bounds.{capacityOk}
 use Rattle.head.specs.Fields.{Fields}
-use Rattle.model.specs.Lists.{without, oldest}
+use Rattle.model.specs.Lists.{without}
 use Rattle.model.specs.Codes.{codesOf}
-use Rattle.model.specs.Desk.{Kind, Desk, entry, live, leaving, isRule, Found, absent, present, find, first, last, onFound}
-use Rattle.model.specs.Calls.{Verdict, refuse, showing, popping, setting, admit, pushing, beside, wrongWeight, putOrModifyCall}
-use Rattle.model.specs.Perform.{Cache, verdict, handed, perform}
+use Rattle.model.specs.Desk.{Desk, entry, live, leaving, isRule, Found, absent, present, find, first, last}
+use Rattle.model.specs.Calls.{Verdict, showing, popping, setting, admit, pushing, beside, wrongWeight, putOrModifyCall}
+use Rattle.model.specs.Perform.{Cache, verdict, perform}
 use Rattle.model.proofs.Cases.{split}
 use Rattle.model.proofs.Verdicts.{on-test, on-found, on-plain, on-lent}
 use Rattle.rows.specs.Written.{column, Written}

@@ -1,13 +1,10 @@
 -- Two runs from the same opening with the same calls give the same answers, rows and states, cells excepted.
 -- Assumes nothing.
-use Prim.Native.Nat.{ℕ, _*_, _≤_, _<_}
-use mathlib.Core.List.{List, [], _∷_, _++_}
+use Prim.Native.Nat.{ℕ}
+use mathlib.Core.List.{List, [], _∷_}
 use mathlib.Core.Path.{_≡_, refl, sym, ap, _∙_, subst}
 use native.Mathlib.Omega.{arith}
-use lib.Dec.{leb}
-use lib.ListN.{length, getD, drop}
 use Rattle.head.specs.declared.Row.{Row}
-use Rattle.head.specs.declared.Answer.{Answer}
 use Rattle.head.specs.declared.Command.{Command}
 use Rattle.head.specs.Fields.{Fields}
 use Rattle.head.specs.Tails.{Tail}
@@ -15,7 +12,6 @@ use Rattle.model.specs.Desk.{Desk, kindOf}
 use Rattle.model.specs.Moves.{Move, stay, raise, set, renew, drop as dropAt, place, replace, fit, sweep, clear, onDesk}
 use Rattle.model.specs.Perform.{Cache, fresh, verdict, handed, perform}
 use Rattle.list.proofs.Unique.{agree}
-use Rattle.store.specs.State.{entryIn}
 use Rattle.store.specs.Acts.{Tails}
 use Rattle.store.proofs.Settled.{one-state}
 use Rattle.rows.specs.Written.{Overlaid, Written}

@@ -6,18 +6,14 @@ use mathlib.Core.List.{List, [], _∷_}
 use mathlib.Core.Path.{_≡_, refl, subst}
 use native.Mathlib.Omega.{arith}
 use lib.Dec.{eqb, lit≤}
-use Rattle.head.specs.declared.Row.{Row}
-use Rattle.head.specs.declared.Answer.{Answer}
 use Rattle.head.specs.declared.Answer.the-variants.{New, Is, Absent, Flag}
-use Rattle.head.specs.declared.Command.{Command}
 use Rattle.head.specs.declared.Command.the-variants.{Peek, Contains, Get, Put}
 use Rattle.head.specs.declared.Refusal.{Refusal}
 use Rattle.head.specs.Bounds.{plainKind, noneMark}
-use Rattle.head.specs.Fields.{Fields}
 use Rattle.head.specs.Tails.{Tail}
 use Rattle.crc.specs.Crc.{shift, shifts, withByte, withBytes, crcOf, bytes}
 use Rattle.crc.specs.Home.{homeOf}
-use Rattle.model.specs.Codes.{codesOf, one, count, Distinct}
+use Rattle.model.specs.Codes.{Distinct}
 use Rattle.model.specs.Desk.{plain, entry}
 use Rattle.model.specs.Perform.{Cache, fresh, opening, refused, opened, verdict, perform}
 use Rattle.model.specs.Runs.{brought}
@@ -29,7 +25,7 @@ use Rattle.table.specs.Acts.{filled, allBelow, tallied, counts}
 use Rattle.inspect.specs.Tests.{headOk, reachOk, slotsOk, blankOk}
 use Rattle.store.specs.State.{fields}
 use Rattle.store.specs.Acts.{Tails}
-use Rattle.rows.specs.Written.{Overlaid, Written}
+use Rattle.rows.specs.Written.{Written}
 use Rattle.plan.specs.States.{Means}
 use Rattle.door.specs.Served.{Reads, Serves, Calls}
 use Rattle.cache.specs.declared.Opened.the-variants.{Cache as Began}
@@ -66,18 +62,18 @@ unfolding headOk reachOk slotsOk blankOk allFrom linksAre cellOk bareOk numbersO
 sound₅ = refl
 
 -- lists of two, and of four, have no tail
-tail₂ : {a b c d : ℕ} → Tail 2 (two a b) (two c d)
+pub tail₂ : {a b c d : ℕ} → Tail 2 (two a b) (two c d)
 tail₂ = record { size = refl; tail = refl }
 
-tail₄ : {a b c d e f g h : ℕ} → Tail 4 (four a b c d) (four e f g h)
+pub tail₄ : {a b c d e f g h : ℕ} → Tail 4 (four a b c d) (four e f g h)
 tail₄ = record { size = refl; tail = refl }
 
-no-tails : {cs vs nx pv ce cs' vs' nx' pv' ce' : List ℕ} → Tail 2 cs cs' → Tail 2 vs vs' → Tail 2 nx nx' → Tail 2 pv pv' → Tail 4 ce ce'
+pub no-tails : {cs vs nx pv ce cs' vs' nx' pv' ce' : List ℕ} → Tail 2 cs cs' → Tail 2 vs vs' → Tail 2 nx nx' → Tail 2 pv pv' → Tail 4 ce ce'
     → Tails 2 (fields cs (two 0 0) vs (two 0 0)) nx pv (two noneMark noneMark) ce (fields cs' (two 0 0) vs' (two 0 0)) nx' pv' (two noneMark noneMark) ce'
 no-tails a b c d e = record { codes = a; stamps = tail₂; values = b; weights = tail₂; nexts = c; prevs = d; stacks = tail₂; table = e }
 
 -- rows of one
-row-written : (c v c' v' : ℕ) → Written (entry c 0 v 0 ∷ []) (row c' v') (row c v)
+pub row-written : (c v c' v' : ℕ) → Written (entry c 0 v 0 ∷ []) (row c' v') (row c v)
 row-written c v c' v' = record {
   codes = record { size = refl; same = refl };
   stamps = record { size = refl; same = refl };
@@ -85,7 +81,7 @@ row-written c v c' v' = record {
   weights = record { size = refl; same = refl };
 }
 
-row-kept : (c v : ℕ) → Written [] (row c v) (row c v)
+pub row-kept : (c v : ℕ) → Written [] (row c v) (row c v)
 row-kept c v = record {
   codes = record { size = refl; same = refl };
   stamps = record { size = refl; same = refl };

@@ -1,9 +1,8 @@
 -- A call that keeps its contract gives what the definitions say.
 -- Assumes nothing.
 use Prim.Native.Nat.{ℕ, _≤_}
-use mathlib.Core.Bool.{true, false}
 use mathlib.Core.List.{List, [], _∷_}
-use mathlib.Core.Path.{_≡_, refl, sym, ap, _∙_, subst}
+use mathlib.Core.Path.{_≡_, refl, sym}
 use native.Mathlib.Omega.{arith}
 use lib.Dec.{leb}
 use lib.ListN.{length}
@@ -14,10 +13,10 @@ use Rattle.head.specs.declared.Command.{Command}
 use Rattle.head.specs.declared.Command.the-variants.{Len, Capacity, Weight, IsEmpty, IsFull, Front, Back, Peek, Contains, List as ListFront, ListBack, Get, Pop, PopFront, PopBack, Put, PutWithWeight, Clear, Retain, Resize, PutOrModify, TryPutOrModify, GetMut, PeekMut, FrontMut, BackMut}
 use Rattle.head.specs.Fields.{Fields}
 use Rattle.head.specs.Tails.{Tail}
-use Rattle.model.specs.Desk.{Desk, Found, absent, present, find, first, last, weighs}
+use Rattle.model.specs.Desk.{Desk, Found, absent, present, find, first, last}
 use Rattle.model.specs.Moves.{stay}
-use Rattle.model.specs.Calls.{Verdict, showing, peekCall}
-use Rattle.model.specs.Perform.{Cache, Outcome, verdict, handed, carried, perform}
+use Rattle.model.specs.Calls.{showing, peekCall}
+use Rattle.model.specs.Perform.{Cache, verdict, perform}
 use Rattle.model.proofs.Cases.{split}
 use Rattle.list.proofs.Unique.{free-is}
 use Rattle.store.proofs.Walked.{order-walked}

@@ -1,15 +1,12 @@
 -- The demands of document 01, each a statement about every run of the public calls from opening.
 -- Assumes nothing.
 use Prim.Native.Nat.{ℕ, _+_, _-_, _*_, _≤_}
-use mathlib.Core.Bool.{Bool, true, false, _||_}
+use mathlib.Core.Bool.{true, _||_}
 use mathlib.Core.List.{List, [], _∷_, _++_}
 use mathlib.Core.Path.{_≡_}
-use Rattle.head.specs.declared.Command.the-variants.{Put}
-use Rattle.head.specs.declared.Code.{Code}
 use Rattle.head.specs.Bounds.{plainKind}
-use Rattle.head.specs.Fields.{Fields}
 use Rattle.head.specs.Tails.{Tail}
-use Rattle.model.specs.Codes.{codesOf, Rearranged}
+use Rattle.model.specs.Codes.{Rearranged}
 use Rattle.model.specs.Desk.{kindOf, weighs}
 use Rattle.model.specs.Perform.{Cache, Outcome, fresh, perform}
 use Rattle.model.specs.Runs.{Sort, plainPut, otherPut, getting, looking, popCode, popEnd, trimming, clearing, another, sortOf, Word, wordOf, isNew, isValue, brought}

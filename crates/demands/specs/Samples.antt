@@ -1,17 +1,16 @@
 -- A cache and a run given by their numbers: plain, C = 2, N = 2, one row lent.
 -- Assumes nothing.
 use Prim.Native.Nat.{ℕ}
+use mathlib.Core.Bool.{false}
 use mathlib.Core.List.{List, [], _∷_}
 use Rattle.head.specs.declared.Code.{Code}
 use Rattle.head.specs.declared.Answer.{Answer}
 use Rattle.head.specs.declared.Answer.the-variants.{New, Is, Absent, Flag}
 use Rattle.head.specs.declared.Command.{Command}
 use Rattle.head.specs.declared.Command.the-variants.{Peek, Contains, Get, Put}
-use Rattle.head.specs.declared.Head.{Head}
 use Rattle.head.specs.Bounds.{plainKind, noneMark, unusedMark}
 use Rattle.head.specs.Fields.{Fields}
 use Rattle.head.specs.Fresh.{freshHead}
-use mathlib.Core.Bool.{false}
 use Rattle.store.specs.State.{fields}
 use Rattle.plan.specs.States.{State, state}
 use Rattle.demands.specs.Runs.{Made}
@@ -76,6 +75,7 @@ row code value = fields (code ∷ []) (0 ∷ []) (value ∷ []) (0 ∷ [])
 abbrev pub made : Command → Fields → Answer → Fields → State → Made
 made m rows a rows' t = record { asked = record { command = m; rows = rows }; answer = a; rows = rows'; left = t }
 
+-- a number as a code
 abbrev pub code : ℕ → Code
 code x = record { 0 = x }
 
