@@ -1,0 +1,94 @@
+-- An answer's numbers are no fewer than the answer: they settle it; and a refusal has no number but its own.
+-- Assumes nothing.
+use Prim.Native.Nat.{ℕ}
+use mathlib.Core.Bool.{Bool, true, false, cond}
+use mathlib.Core.Path.{_≡_, refl, sym, ap, _∙_}
+use lib.Dec.{eqb}
+use Rattle.head.specs.declared.Answer.{Answer}
+use Rattle.head.specs.declared.Answer.the-variants.{No, New, Was, Is, Now, Absent, Entry, Done, Count, Flag}
+use Rattle.head.specs.declared.Refusal.{Refusal}
+use Rattle.head.specs.declared.Refusal.the-variants.{NotOpened, Unsound, WrongKind, TooHeavy, NoSlot, TooFewRows, OverCeiling, NotUnderstood}
+use Rattle.head.specs.Refusals.{numberOf}
+use Rattle.model.specs.Desk.{entry}
+use Rattle.claims.specs.declared.Numbers.{Numbers}
+use Rattle.claims.specs.Numbered.{bit, numbered, numbersOf}
+
+-- ---- the code's answers
+
+-- equal answers have equal numbers
+pub told-as : {x y : Answer} → x ≡ y → numbersOf y ≡ numbersOf x
+told-as e = sym (ap numbersOf e)
+
+-- a refusal by its number
+pub no-as : {x : Answer} {r : Refusal} {k : ℕ} → x ≡ No r → k ≡ numberOf r → numbered k 0 0 0 0 0 0 0 ≡ numbersOf x
+no-as e q = ap (λ (k : ℕ). numbered k 0 0 0 0 0 0 0) q ∙ told-as e
+
+-- a value that is held now
+pub now-as : {x : Answer} {v n k : ℕ} {b : Bool} → x ≡ Now v b n → k ≡ bit b → numbered 0 4 v n k 0 0 0 ≡ numbersOf x
+now-as {v = v} {n} e q = ap (λ (k : ℕ). numbered 0 4 v n k 0 0 0) q ∙ told-as e
+
+-- a flag
+pub flag-as : {x : Answer} {k : ℕ} {b : Bool} → x ≡ Flag b → k ≡ bit b → numbered 0 9 0 0 k 0 0 0 ≡ numbersOf x
+flag-as e q = ap (λ (k : ℕ). numbered 0 9 0 0 k 0 0 0) q ∙ told-as e
+
+-- ---- back from the numbers
+
+-- the refusal of a number
+refusalAt : ℕ → Refusal
+refusalAt n =
+    cond (eqb n 1) NotOpened
+    (cond (eqb n 2) Unsound
+    (cond (eqb n 3) WrongKind
+    (cond (eqb n 4) TooHeavy (cond (eqb n 5) NoSlot (cond (eqb n 6) TooFewRows (cond (eqb n 7) OverCeiling NotUnderstood))))))
+
+refusal-back : (r : Refusal) → refusalAt (numberOf r) ≡ r
+unfolding refusalAt
+refusal-back NotOpened = refl
+refusal-back Unsound = refl
+refusal-back WrongKind = refl
+refusal-back TooHeavy = refl
+refusal-back NoSlot = refl
+refusal-back TooFewRows = refl
+refusal-back OverCeiling = refl
+refusal-back NotUnderstood = refl
+
+bit-back : (b : Bool) → eqb (bit b) 1 ≡ b
+bit-back true = refl
+bit-back false = refl
+
+-- the answer that has these numbers
+answerOf : Numbers → Answer
+answerOf n =
+    cond (eqb (n .word) 0) (No (refusalAt (n .refusal)))
+    (cond (eqb (n .word) 1) (New (n .rows))
+    (cond (eqb (n .word) 2) (Was (n .value) (n .rows))
+    (cond (eqb (n .word) 3) (Is (n .value))
+    (cond (eqb (n .word) 4) (Now (n .value) (eqb (n .fresh) 1) (n .rows))
+    (cond (eqb (n .word) 5) Absent
+    (cond (eqb (n .word) 6) (Entry (entry (n .code) (n .stamp) (n .value) (n .weight)))
+    (cond (eqb (n .word) 7) (Done (n .rows)) (cond (eqb (n .word) 8) (Count (n .value)) (Flag (eqb (n .fresh) 1))))))))))
+
+answer-back : (a : Answer) → answerOf (numbersOf a) ≡ a
+unfolding answerOf
+answer-back (No r) = ap No (refusal-back r)
+answer-back (New rows) = refl
+answer-back (Was value rows) = refl
+answer-back (Is value) = refl
+answer-back (Now value new rows) = ap (λ (b : Bool). Now value b rows) (bit-back new)
+answer-back Absent = refl
+answer-back (Entry e) = refl
+answer-back (Done rows) = refl
+answer-back (Count n) = refl
+answer-back (Flag b) = ap Flag (bit-back b)
+
+-- two answers of the same numbers are one
+pub numbers-settle : {a b : Answer} → numbersOf a ≡ numbersOf b → a ≡ b
+numbers-settle {a} {b} e = sym (answer-back a) ∙ ap answerOf e ∙ answer-back b
+
+-- every number in a refusal but its own is 0
+pub refusal-bare : (r : Refusal) → numbersOf (No r) ≡ numbered (numberOf r) 0 0 0 0 0 0 0
+refusal-bare r = refl
+
+-- and so is every number of an absence
+pub absent-bare : numbersOf Absent ≡ numbered 0 5 0 0 0 0 0 0
+absent-bare = refl
