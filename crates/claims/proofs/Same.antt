@@ -3,7 +3,7 @@
 use Prim.Native.Nat.{ℕ, _*_, _≤_, _<_}
 use mathlib.Core.Bool.{Bool, true, false, cond, _&&_}
 use mathlib.Core.List.{List}
-use mathlib.Core.Logic.{_⊎_, inl, inr, ⊎-elim}
+use mathlib.Core.Logic.{⊎-elim}
 use mathlib.Core.Path.{_≡_, refl, sym, ap, _∙_, subst}
 use native.Mathlib.Omega.{arith}
 use lib.ListN.{length, getD, drop}
@@ -18,8 +18,7 @@ use Rattle.head.specs.Tails.{Tail}
 use Rattle.model.specs.Desk.{Desk, kindOf}
 use Rattle.model.specs.Moves.{Move, stay, raise, set, renew, drop as dropped, place, replace, fit, sweep, clear, onDesk}
 use Rattle.model.specs.Perform.{Cache, fresh, Opening, refused, opened, opening, verdict, handed, perform}
-use Rattle.list.proofs.Unique.{agree, one-next, one-prev, one-stack}
-use Rattle.store.specs.State.{entryIn}
+use Rattle.list.proofs.Unique.{agree}
 use Rattle.store.proofs.Settled.{one-cache, one-state}
 use Rattle.rows.specs.Written.{Written}
 use Rattle.plan.specs.States.{State, Means, Sound, TailsKept}
