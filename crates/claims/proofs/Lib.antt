@@ -1,4 +1,11 @@
 pub mod Decided
 pub mod Same
+pub mod Public
 pub mod Telling
 pub mod Untouched
+pub mod Sampled
+pub mod Ruled
+pub mod WrongReads
+pub mod WrongServes
+pub mod WrongCalls
+pub mod WrongOpens

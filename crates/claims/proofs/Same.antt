@@ -22,6 +22,7 @@ use Rattle.list.proofs.Unique.{agree}
 use Rattle.store.proofs.Settled.{one-cache, one-state}
 use Rattle.rows.specs.Written.{Written}
 use Rattle.plan.specs.States.{State, Means, Sound, TailsKept}
+use Rattle.plan.specs.Plans.{cellsStay}
 use Rattle.door.specs.Served.{Follows, Serves, Calls, Tells, Reads, shortest}
 use Rattle.cache.specs.declared.Opened.{Opened}
 use Rattle.cache.specs.declared.Opened.the-variants.{Cache as Began, No}
@@ -119,6 +120,15 @@ one-serve {s = s} x y =
     (λ w. one-follow (w .described) (x .sound (w .cache) (w .described)) (y .sound (w .cache) (w .described)))
     (λ n. (x .unsound n .0 ∙ sym (y .unsound n .0), agree-equal (x .unsound n .1) (y .unsound n .1)))
     (sound? s)
+
+-- and where the call moves no entry between cells, every number is settled
+pub one-cells : {m : Command} {lent : ℕ} {s t u : State} {a b : Answer} {c : Cache} → Serves m lent s t a → Serves m lent s u b → Means s c
+    → cellsStay (handed lent (verdict m (c .desk)) .move) ≡ true
+    → t ≡ u
+one-cells {t = t} {u} {c = c} x y d e =
+    let g : Agree t u = one-serve x y .1 in
+    let cells : t .cells ≡ u .cells = x .sound c d .cells e ∙ sym (y .sound c d .cells e) in
+    λ i. record { head = g .head i; fields = g .fields i; nexts = g .nexts i; prevs = g .prevs i; stack = g .stack i; cells = cells i }
 
 -- rows written over one set of lists are one set
 pub one-written : {rs : List Row} {f g h : Fields} → Written rs f g → Written rs f h → g ≡ h

@@ -1,0 +1,66 @@
+-- The samples are caches that states describe: the inspection's tests pass on the numbers, and the numbers spell the cache.
+-- Assumes nothing.
+use Prim.Native.Nat.{ℕ}
+use mathlib.Core.Path.{_≡_, refl}
+use mathlib.Core.Bool.{true}
+use mathlib.Core.List.{List, [], _∷_}
+use Rattle.crc.specs.Home.{homeOf}
+use Rattle.crc.specs.Crc.{shift, shifts, withByte, withBytes, crcOf, bytes}
+use Rattle.list.specs.Inspect.{allFrom, linksAre, cellOk, bareOk, numbersOk}
+use Rattle.table.specs.Acts.{filled, allBelow, tallied, counts}
+use Rattle.table.specs.Cells.{wrap, ring, stops, past, answer, lookup, names}
+use Rattle.inspect.specs.Tests.{headOk, reachOk, slotsOk, blankOk}
+use Rattle.inspect.proofs.Decided.{passed-whole}
+use Rattle.plan.specs.States.{State, Means, Sound}
+use Rattle.claims.specs.Samples.{roomy, full, laden, packed, bare, pairState, bareState}
+use Rattle.claims.proofs.Decided.{sound-shows}
+
+roomy-sound : Sound (pairState 0 3 0 0 0)
+unfolding headOk reachOk slotsOk blankOk allFrom linksAre cellOk bareOk numbersOk filled allBelow tallied counts wrap ring stops past answer lookup names homeOf shift shifts withByte withBytes crcOf bytes
+roomy-sound =
+    let s : State = pairState 0 3 0 0 0 in
+    passed-whole (s .head) (s .fields) (s .nexts) (s .prevs) (s .stack) (s .cells) refl refl refl refl refl refl refl refl
+
+-- a state that describes the roomy cache
+pub roomy-means : Means (pairState 0 3 0 0 0) roomy
+roomy-means = sound-shows {s = pairState 0 3 0 0 0} roomy-sound
+
+full-sound : Sound (pairState 0 2 0 0 0)
+unfolding headOk reachOk slotsOk blankOk allFrom linksAre cellOk bareOk numbersOk filled allBelow tallied counts wrap ring stops past answer lookup names homeOf shift shifts withByte withBytes crcOf bytes
+full-sound =
+    let s : State = pairState 0 2 0 0 0 in
+    passed-whole (s .head) (s .fields) (s .nexts) (s .prevs) (s .stack) (s .cells) refl refl refl refl refl refl refl refl
+
+-- a state that describes the full cache
+pub full-means : Means (pairState 0 2 0 0 0) full
+full-means = sound-shows {s = pairState 0 2 0 0 0} full-sound
+
+laden-sound : Sound (pairState 1 10 3 4 7)
+unfolding headOk reachOk slotsOk blankOk allFrom linksAre cellOk bareOk numbersOk filled allBelow tallied counts wrap ring stops past answer lookup names homeOf shift shifts withByte withBytes crcOf bytes
+laden-sound =
+    let s : State = pairState 1 10 3 4 7 in
+    passed-whole (s .head) (s .fields) (s .nexts) (s .prevs) (s .stack) (s .cells) refl refl refl refl refl refl refl refl
+
+-- a state that describes the laden cache
+pub laden-means : Means (pairState 1 10 3 4 7) laden
+laden-means = sound-shows {s = pairState 1 10 3 4 7} laden-sound
+
+packed-sound : Sound (pairState 1 9 3 4 7)
+unfolding headOk reachOk slotsOk blankOk allFrom linksAre cellOk bareOk numbersOk filled allBelow tallied counts wrap ring stops past answer lookup names homeOf shift shifts withByte withBytes crcOf bytes
+packed-sound =
+    let s : State = pairState 1 9 3 4 7 in
+    passed-whole (s .head) (s .fields) (s .nexts) (s .prevs) (s .stack) (s .cells) refl refl refl refl refl refl refl refl
+
+-- a state that describes the packed cache
+pub packed-means : Means (pairState 1 9 3 4 7) packed
+packed-means = sound-shows {s = pairState 1 9 3 4 7} packed-sound
+
+bare-sound : Sound bareState
+unfolding headOk reachOk slotsOk blankOk allFrom linksAre cellOk bareOk numbersOk filled allBelow tallied counts wrap ring stops past answer lookup names homeOf shift shifts withByte withBytes crcOf bytes
+bare-sound =
+    let s : State = bareState in
+    passed-whole (s .head) (s .fields) (s .nexts) (s .prevs) (s .stack) (s .cells) refl refl refl refl refl refl refl refl
+
+-- a state that describes the bare cache
+pub bare-means : Means bareState bare
+bare-means = sound-shows {s = bareState} bare-sound
