@@ -2,6 +2,7 @@ pub mod Decided
 pub mod Same
 pub mod Public
 pub mod Telling
+pub mod Counted
 pub mod Untouched
 pub mod Sampled
 pub mod Ruled

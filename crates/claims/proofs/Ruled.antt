@@ -40,7 +40,7 @@ differ xs ys n e = true≢false (sym (same-self xs) ∙ ap (same xs) e ∙ n)
 abbrev pub spelt : Answer → List ℕ
 spelt a =
     let n : Numbers = numbersOf a in
-    n .refusal ∷ n .word ∷ n .value ∷ n .rows ∷ n .fresh ∷ n .code ∷ n .stamp ∷ n .weight ∷ []
+    n .word ∷ n .refusal ∷ n .value ∷ n .rows ∷ n .fresh ∷ n .code ∷ n .stamp ∷ n .weight ∷ []
 
 -- the numbers of entries in a row
 abbrev pub rowsSpelt : List Row → List ℕ

@@ -21,11 +21,11 @@ use Rattle.model.specs.Perform.{Cache, fresh, Opening, refused, opened, opening
 use Rattle.list.proofs.Unique.{agree}
 use Rattle.store.proofs.Settled.{one-cache, one-state}
 use Rattle.rows.specs.Written.{Written}
-use Rattle.plan.specs.States.{State, Means, Sound, TailsKept}
+use Rattle.plan.specs.States.{State, Means, TailsKept}
 use Rattle.plan.specs.Plans.{cellsStay}
-use Rattle.door.specs.Served.{Follows, Serves, Calls, Tells, Reads, shortest}
+use Rattle.door.specs.Served.{Follows, Serves, Calls, Tells, Reads}
 use Rattle.cache.specs.declared.Opened.{Opened}
-use Rattle.cache.specs.declared.Opened.the-variants.{Cache as Began, No}
+use Rattle.cache.specs.declared.Opened.the-variants.{Cache as Began}
 use Rattle.cache.specs.Begun.{spacious, Opens}
 use Rattle.claims.specs.Agreed.{Agree}
 use Rattle.claims.proofs.Decided.{sound?}

@@ -1,9 +1,6 @@
 -- The samples are caches that states describe: the inspection's tests pass on the numbers, and the numbers spell the cache.
 -- Assumes nothing.
-use Prim.Native.Nat.{ℕ}
-use mathlib.Core.Path.{_≡_, refl}
-use mathlib.Core.Bool.{true}
-use mathlib.Core.List.{List, [], _∷_}
+use mathlib.Core.Path.{refl}
 use Rattle.crc.specs.Home.{homeOf}
 use Rattle.crc.specs.Crc.{shift, shifts, withByte, withBytes, crcOf, bytes}
 use Rattle.list.specs.Inspect.{allFrom, linksAre, cellOk, bareOk, numbersOk}

@@ -27,7 +27,7 @@ use Rattle.rows.specs.Written.{Written}
 use Rattle.store.specs.Caches.{after}
 use Rattle.plan.specs.States.{State, Means, TailsKept}
 use Rattle.plan.specs.Plans.{cellsStay}
-use Rattle.door.specs.Served.{Serves, Calls, shortest}
+use Rattle.door.specs.Served.{Serves, Calls, Tells, shortest}
 use Rattle.claims.proofs.Decided.{sound?}
 use Rattle.claims.proofs.Same.{one-left}
 
@@ -198,6 +198,18 @@ refused-rows {m} {s} {rows = rows} {out} {r = r} x e =
     (denies-lent r m (shortest rows) (w .cache .desk) .rows (sym (x .serves .sound (w .cache) (w .described) .answer) ∙ e))
     (x .hands (w .cache) (w .described))))
     (λ u. x .unsound u)
+    (sound? s)
+
+-- and so does every refused listing
+pub refused-listing : {m : Command} {s : State} {rows out : Fields} {a : Answer} {r : Refusal} → Tells m s rows out a → a ≡ No r → out ≡ rows
+unfolding perform
+refused-listing {m} {s} {rows} {out} {r = r} x e =
+    ⊎-elim
+    (λ w.
+    written-none (subst (λ (l : List Row). Written l rows out)
+    (denies-lent r m (shortest rows) (w .cache .desk) .rows (sym (x .answer (w .cache) (w .described)) ∙ e))
+    (x .hands (w .cache) (w .described))))
+    (λ u. x .unsound u .1)
     (sound? s)
 
 -- ---- refusal 7

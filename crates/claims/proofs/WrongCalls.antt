@@ -1,11 +1,12 @@
 -- Wrong answers that the contracts of the calls that put, sweep and resize rule out. The samples stand in specs/Samples.antt.
 -- Assumes nothing.
+use Prim.Native.Nat.{ℕ}
 use mathlib.Core.Path.{_≡_, refl}
 use mathlib.Core.Bool.{true, false}
-use mathlib.Core.List.{List, [], _∷_}
+use mathlib.Core.List.{[], _∷_}
 use Rattle.head.specs.declared.Answer.{Answer}
 use Rattle.head.specs.declared.Answer.the-variants.{No, New, Now, Done}
-use Rattle.head.specs.declared.Refusal.the-variants.{NoSlot}
+use Rattle.head.specs.declared.Refusal.{Refusal}
 use Rattle.head.specs.declared.Command.the-variants.{Put, PutWithWeight, Retain, Resize, PutOrModify, TryPutOrModify}
 use Rattle.head.specs.Fields.{Fields}
 use Rattle.head.specs.Rules.{codeRule, ruleOf}
@@ -24,7 +25,7 @@ unfolding perform verdict
 put-nothing x d = call-leaves x d refl
 
 -- "new" for a code that is there
-pub put-new : {s t : State} {out : Fields} {a : Answer} → Calls (Put (code 10) 9 101) s t lists out a → Means s roomy → a ≡ New 0 → ⊥
+pub put-new : {s t : State} {out : Fields} {a : Answer} {n : ℕ} → Calls (Put (code 10) 9 101) s t lists out a → Means s roomy → a ≡ New n → ⊥
 unfolding perform verdict
 put-new x d = call-says x d refl
 
@@ -43,8 +44,8 @@ pub put-silent : {s t : State} {out : Fields} {a : Answer} → Calls (Put (code 
 unfolding perform verdict
 put-silent x d = call-hands x d refl
 
--- a refusal where a slot waits
-pub put-refuses : {s t : State} {out : Fields} {a : Answer} → Calls (Put (code 30) 9 300) s t lists out a → Means s roomy → a ≡ No NoSlot → ⊥
+-- a refusal, whatever its number, where there is room
+pub put-refuses : {s t : State} {out : Fields} {a : Answer} {r : Refusal} → Calls (Put (code 30) 9 300) s t lists out a → Means s roomy → a ≡ No r → ⊥
 unfolding perform verdict
 put-refuses x d = call-says x d refl
 

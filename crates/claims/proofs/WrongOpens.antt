@@ -9,7 +9,8 @@ use Rattle.head.specs.declared.Head.{Head}
 use Rattle.head.specs.declared.Row.{Row}
 use Rattle.head.specs.declared.Answer.{Answer}
 use Rattle.head.specs.declared.Answer.the-variants.{No as Refused, Absent}
-use Rattle.head.specs.declared.Refusal.the-variants.{NotOpened, Unsound}
+use Rattle.head.specs.declared.Refusal.{Refusal}
+use Rattle.head.specs.declared.Refusal.the-variants.{NotOpened}
 use Rattle.head.specs.declared.Command.{Command}
 use Rattle.head.specs.declared.Command.the-variants.{Get}
 use Rattle.head.specs.Fields.{Fields}
@@ -54,8 +55,8 @@ open-short x l e = true≢false (sym (ap began e) ∙ ap began (x .refuses NotOp
 
 -- ---- `call` of any command
 
--- refused with 2 where the state is sound
-pub call-refuses : {s t : State} {out : Fields} {a : Answer} → Calls (Get (code 10)) s t lists out a → Means s roomy → a ≡ Refused Unsound → ⊥
+-- refused, with whatever number, where the state is sound and the code there
+pub call-refuses : {s t : State} {out : Fields} {a : Answer} {r : Refusal} → Calls (Get (code 10)) s t lists out a → Means s roomy → a ≡ Refused r → ⊥
 unfolding perform verdict
 call-refuses x d = call-says x d refl
 

@@ -1,17 +1,17 @@
 -- Wrong answers that the contracts of the calls that only read rule out. The samples stand in specs/Samples.antt.
 -- Assumes nothing.
+use Prim.Native.Nat.{ℕ}
 use mathlib.Core.Path.{_≡_, refl}
 use mathlib.Core.Bool.{true, false}
-use mathlib.Core.List.{List, [], _∷_}
+use mathlib.Core.List.{[], _∷_}
 use Rattle.head.specs.declared.Answer.{Answer}
 use Rattle.head.specs.declared.Answer.the-variants.{Is, Absent, Entry, Done, Count, Flag}
 use Rattle.head.specs.declared.Command.the-variants.{Len, Capacity, Weight, IsEmpty, IsFull, Front, Back, Peek, Contains, List as ListFront, ListBack}
 use Rattle.head.specs.Fields.{Fields}
-use Rattle.model.specs.Desk.{entry}
 use Rattle.model.specs.Perform.{verdict, perform}
 use Rattle.plan.specs.States.{State, Means}
 use Rattle.door.specs.Served.{Tells, Reads}
-use Rattle.claims.specs.Samples.{code, row20, row10, roomy, full, laden, packed, bare, lists}
+use Rattle.claims.specs.Samples.{code, row20, row10, roomy, laden, packed, bare, lists}
 use Rattle.claims.proofs.Ruled.{read-says, tell-hands, tell-says}
 
 -- ---- `len`
@@ -105,8 +105,8 @@ pub peek-absent : {s : State} {a : Answer} → Reads (Peek (code 10)) s a → Me
 unfolding perform verdict
 peek-absent x d = read-says x d refl
 
--- a value of 0 for a code that is not there
-pub peek-found : {s : State} {a : Answer} → Reads (Peek (code 30)) s a → Means s roomy → a ≡ Is 0 → ⊥
+-- a value for a code that is not there
+pub peek-found : {s : State} {a : Answer} {n : ℕ} → Reads (Peek (code 30)) s a → Means s roomy → a ≡ Is n → ⊥
 unfolding perform verdict
 peek-found x d = read-says x d refl
 

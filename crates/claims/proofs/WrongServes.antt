@@ -1,7 +1,7 @@
 -- Wrong answers that the contracts of the calls that hand out no rows rule out. The samples stand in specs/Samples.antt.
 -- Assumes nothing.
 use mathlib.Core.Path.{_≡_, refl}
-use mathlib.Core.List.{List, [], _∷_}
+use mathlib.Core.List.{[], _∷_}
 use Rattle.head.specs.declared.Answer.{Answer}
 use Rattle.head.specs.declared.Answer.the-variants.{Was, Absent, Entry, Count}
 use Rattle.head.specs.declared.Command.the-variants.{Get, Pop, PopFront, PopBack, Clear, GetMut, PeekMut, FrontMut, BackMut}

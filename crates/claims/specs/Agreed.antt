@@ -1,6 +1,6 @@
 -- Two states that differ in which cell holds which slot at most.
 -- Assumes nothing.
-use Prim.Native.Nat.{ℕ, _*_}
+use Prim.Native.Nat.{_*_}
 use mathlib.Core.Path.{_≡_}
 use lib.ListN.{length, drop}
 use Rattle.model.specs.Perform.{Cache}

@@ -1,8 +1,7 @@
 -- The numbers that document 01 gives an answer: every number that an answer does not have is 0.
 -- Assumes nothing.
 use Prim.Native.Nat.{ℕ}
-use mathlib.Core.Bool.{Bool, true, false, cond}
-use Rattle.head.specs.declared.Row.{Row}
+use mathlib.Core.Bool.{Bool, cond}
 use Rattle.head.specs.declared.Answer.{Answer}
 use Rattle.head.specs.declared.Answer.the-variants.{No, New, Was, Is, Now, Absent, Entry, Done, Count, Flag}
 use Rattle.head.specs.Refusals.{numberOf}

@@ -4,7 +4,6 @@ use Prim.Native.Nat.{ℕ}
 use mathlib.Core.List.{List, [], _∷_}
 use mathlib.Core.Path.{_≡_}
 use Rattle.head.specs.declared.Code.{Code}
-use Rattle.head.specs.declared.Head.{Head}
 use Rattle.head.specs.declared.Row.{Row}
 use Rattle.head.specs.Bounds.{noneMark, unusedMark}
 use Rattle.head.specs.Fields.{Fields}
