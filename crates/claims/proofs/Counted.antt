@@ -34,6 +34,7 @@ Counts v = numbersOf (v .answer) .rows ≡ length (v .rows)
 oldest-length : (k : ℕ) (es : List Row) → k ≤ length es → k ≡ length (oldest k es)
 oldest-length k es h = omega (arith, length-reverse (drop (length es - k) es), length-drop (length es - k) es)
 
+-- an entry let in counts those that it pushes out
 admitted : (k : ℕ) (e : Row) (a : Answer) (d : Desk) → k ≤ length (d .entries) → numbersOf a .rows ≡ k → Counts (admit k e a d)
 admitted k e a d h q = on-test Counts (eqb (live d) (d .room) && eqb k 0) (λ z. refl) (λ z. q ∙ oldest-length k (d .entries) h)
 
@@ -45,6 +46,7 @@ module _ (d : Desk) (l : Lawful d) where
       (λ t. rw t (omega (arith, eqb-true (live d) (d .capacity) t, l .capacity .0)))
       (λ t. rw t (omega arith))
 
+  -- `put_or_modify` counts
   modified : (c s n : ℕ) → Counts (putOrModifyCall c s n d)
   modified c s n =
       on-plain Counts (d .kind) refl (λ z.
@@ -52,9 +54,11 @@ module _ (d : Desk) (l : Lawful d) where
       (λ q. admitted (pushing d) (entry c s n 0) (Now n true (pushing d)) d pushing-most refl)
       (λ i e q. refl))
 
+  -- setting a value counts none
   set-counts : (f : Found) (v : ℕ) → Counts (setting f v d)
   set-counts f v = on-plain Counts (d .kind) refl (λ z. on-found Counts f (λ q. refl) (λ i e q. refl))
 
+  -- every verdict counts its rows
   verdict-counts : (m : Command) → Counts (verdict m d)
   unfolding verdict
   verdict-counts Len = refl

@@ -54,6 +54,7 @@ shown s = record {
   };
 }
 
+-- the kind of a kind's number is that kind
 kind-back : (k : Kind) → kindOf (kindNumber k) ≡ k
 kind-back plain = refl
 kind-back weighed = refl

@@ -29,10 +29,12 @@ same [] (y ∷ ys) = false
 same (x ∷ xs) [] = false
 same (x ∷ xs) (y ∷ ys) = eqb x y && same xs ys
 
+-- a list is the same as itself
 same-self : (xs : List ℕ) → same xs xs ≡ true
 same-self [] = refl
 same-self (x ∷ xs) = rw (eq-eqb x x refl) (same-self xs)
 
+-- lists that the test tells apart are not equal
 differ : (xs ys : List ℕ) → same xs ys ≡ false → xs ≡ ys → ⊥
 differ xs ys n e = true≢false (sym (same-self xs) ∙ ap (same xs) e ∙ n)
 

@@ -54,9 +54,11 @@ tails-same : {n : ℕ} {l a b : List ℕ} → Tail n l a → Tail n l b → drop
 tails-same p q = p .tail ∙ sym (q .tail)
 
 module _ (s : State) {t u : State} {c : Cache} (d : Means t c) (e : Means u c) (n : s .head .slots ≡ c .desk .room) (p : TailsKept s t) (q : TailsKept s u) where
+  -- the slot count is what it was
   slots-t : s .head .slots ≡ t .head .slots
   slots-t = n ∙ sym (d .room)
 
+  -- both states have one slot count
   slots-same : u .head .slots ≡ t .head .slots
   slots-same = e .room ∙ sym (d .room)
 
@@ -104,6 +106,7 @@ room-kept (fit k c) d = refl
 room-kept (sweep q) d = refl
 room-kept clear d = refl
 
+-- so no call changes it
 pub left-room : (m : Command) (lent : ℕ) (c : Cache) → perform m lent c .left .desk .room ≡ c .desk .room
 unfolding perform
 left-room m lent c = room-kept (handed lent (verdict m (c .desk)) .move) (c .desk)
@@ -177,11 +180,13 @@ roomOf : ℕ → Opening → ℕ
 roomOf n (refused e) = n
 roomOf n (opened x) = x .desk .room
 
+-- opened or refused, the slot count is n
 room-test : (n : ℕ) (b : Bool) (x : Cache) (e : Refusal) → x .desk .room ≡ n → roomOf n (cond b (opened x) (refused e)) ≡ n
 unfolding roomOf
 room-test n true x e k = k
 room-test n false x e k = refl
 
+-- a cache that was opened with n slots has n
 opened-room : (kind c n : ℕ) (long : Bool) (x : Cache) → opening kind c n long ≡ opened x → x .desk .room ≡ n
 unfolding opening roomOf
 opened-room kind c n long x e = sym (ap (roomOf n) e) ∙ room-test n (allowed kind c n && long) (fresh (kindOf kind) c n) NotOpened refl

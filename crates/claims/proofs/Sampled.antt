@@ -12,6 +12,7 @@ use Rattle.plan.specs.States.{State, Means, Sound}
 use Rattle.claims.specs.Samples.{roomy, full, laden, packed, bare, pairState, bareState}
 use Rattle.claims.proofs.Decided.{sound-shows}
 
+-- the tests pass on the numbers of the roomy cache
 roomy-sound : Sound (pairState 0 3 0 0 0)
 unfolding headOk reachOk slotsOk blankOk allFrom linksAre cellOk bareOk numbersOk filled allBelow tallied counts wrap ring stops past answer lookup names homeOf shift shifts withByte withBytes crcOf bytes
 roomy-sound =
@@ -22,6 +23,7 @@ roomy-sound =
 pub roomy-means : Means (pairState 0 3 0 0 0) roomy
 roomy-means = sound-shows {s = pairState 0 3 0 0 0} roomy-sound
 
+-- the tests pass on the numbers of the full cache
 full-sound : Sound (pairState 0 2 0 0 0)
 unfolding headOk reachOk slotsOk blankOk allFrom linksAre cellOk bareOk numbersOk filled allBelow tallied counts wrap ring stops past answer lookup names homeOf shift shifts withByte withBytes crcOf bytes
 full-sound =
@@ -32,6 +34,7 @@ full-sound =
 pub full-means : Means (pairState 0 2 0 0 0) full
 full-means = sound-shows {s = pairState 0 2 0 0 0} full-sound
 
+-- the tests pass on the numbers of the laden cache
 laden-sound : Sound (pairState 1 10 3 4 7)
 unfolding headOk reachOk slotsOk blankOk allFrom linksAre cellOk bareOk numbersOk filled allBelow tallied counts wrap ring stops past answer lookup names homeOf shift shifts withByte withBytes crcOf bytes
 laden-sound =
@@ -42,6 +45,7 @@ laden-sound =
 pub laden-means : Means (pairState 1 10 3 4 7) laden
 laden-means = sound-shows {s = pairState 1 10 3 4 7} laden-sound
 
+-- the tests pass on the numbers of the packed cache
 packed-sound : Sound (pairState 1 9 3 4 7)
 unfolding headOk reachOk slotsOk blankOk allFrom linksAre cellOk bareOk numbersOk filled allBelow tallied counts wrap ring stops past answer lookup names homeOf shift shifts withByte withBytes crcOf bytes
 packed-sound =
@@ -52,6 +56,7 @@ packed-sound =
 pub packed-means : Means (pairState 1 9 3 4 7) packed
 packed-means = sound-shows {s = pairState 1 9 3 4 7} packed-sound
 
+-- the tests pass on the numbers of the bare cache
 bare-sound : Sound bareState
 unfolding headOk reachOk slotsOk blankOk allFrom linksAre cellOk bareOk numbersOk filled allBelow tallied counts wrap ring stops past answer lookup names homeOf shift shifts withByte withBytes crcOf bytes
 bare-sound =

@@ -41,6 +41,7 @@ refusalAt n =
     (cond (eqb n 3) WrongKind
     (cond (eqb n 4) TooHeavy (cond (eqb n 5) NoSlot (cond (eqb n 6) TooFewRows (cond (eqb n 7) OverCeiling NotUnderstood))))))
 
+-- the number of a refusal leads back to it
 refusal-back : (r : Refusal) → refusalAt (numberOf r) ≡ r
 unfolding refusalAt
 refusal-back NotOpened = refl
@@ -52,6 +53,7 @@ refusal-back TooFewRows = refl
 refusal-back OverCeiling = refl
 refusal-back NotUnderstood = refl
 
+-- the number of a truth leads back to it
 bit-back : (b : Bool) → eqb (bit b) 1 ≡ b
 bit-back true = refl
 bit-back false = refl
@@ -68,6 +70,7 @@ answerOf n =
     (cond (eqb (n .word) 6) (Entry (entry (n .code) (n .stamp) (n .value) (n .weight)))
     (cond (eqb (n .word) 7) (Done (n .rows)) (cond (eqb (n .word) 8) (Count (n .value)) (Flag (eqb (n .fresh) 1))))))))))
 
+-- the numbers of an answer lead back to it
 answer-back : (a : Answer) → answerOf (numbersOf a) ≡ a
 unfolding answerOf
 answer-back (No r) = ap No (refusal-back r)

@@ -111,9 +111,11 @@ module _ (r : Refusal) where
   unfolding whyOf
   ceiling e f = record { rows = λ q. e; move = λ q. inl (sym (ap (whyOf r) q) ∙ ap (whyOf r) f) }
 
+  -- letting an entry in
   admitted : (k : ℕ) (e : Row) (a : Answer) (d : Desk) → isNo a ≡ false → P (admit k e a d)
   admitted k e a d n = on-test P (eqb (live d) (d .room) && eqb k 0) (λ q. still refl refl) (λ q. says n)
 
+  -- `put_or_modify`
   put-or-modify : (c s n : ℕ) (d : Desk) → P (putOrModifyCall c s n d)
   unfolding isNo
   put-or-modify c s n d =
@@ -122,10 +124,12 @@ module _ (r : Refusal) where
       (λ q. admitted (pushing d) (entry c s n 0) (Now n true (pushing d)) d refl)
       (λ i e q. says refl))
 
+  -- setting a value
   set-value : (f : Found) (v : ℕ) (d : Desk) → P (setting f v d)
   unfolding isNo
   set-value f v d = on-plain P (d .kind) (still refl refl) (λ z. on-found P f (λ q. still refl refl) (λ i e q. says refl))
 
+  -- every command
   denies : (m : Command) (d : Desk) → P (verdict m d)
   unfolding verdict isNo
   denies Len d = says refl
@@ -234,6 +238,7 @@ module _ (g : Move) where
   unfolding whyOf
   other r e n = record { goes = λ q. absurd (n (ap (λ (a : Answer). numberOf (whyOf r a)) (sym e ∙ q))) }
 
+  -- `put_or_modify` never refuses with 7
   not-seven : (c s n : ℕ) (d : Desk) → Moves g (putOrModifyCall c s n d)
   unfolding isNo
   not-seven c s n d =
@@ -242,6 +247,7 @@ module _ (g : Move) where
       (λ q. on-test (Moves g) (eqb (live d) (d .room) && eqb (pushing d) 0) (λ y. other NoSlot refl (λ x. absurd (omega arith))) (λ y. speaks refl))
       (λ i e q. speaks refl))
 
+-- `try_put_or_modify` makes that move where it refuses with 7
 seven : (c s n most : ℕ) (d : Desk) → Moves (ceilingMove (find c (d .entries))) (tryPutOrModifyCall c s n most d)
 seven c s n most d =
     on-plain (Moves (ceilingMove (find c (d .entries)))) (d .kind) (other _ WrongKind refl (λ z. absurd (omega arith))) (λ z. by (find c (d .entries)))
