@@ -30,11 +30,11 @@ row20 = entry 20 8 200 0
 abbrev pub row10 : Row
 row10 = entry 10 7 100 0
 
--- the same with weight 4
+-- code 20 with weight 4
 abbrev pub heavy20 : Row
 heavy20 = entry 20 8 200 4
 
--- the same with weight 3
+-- code 10 with weight 3
 abbrev pub heavy10 : Row
 heavy10 = entry 10 7 100 3
 
