@@ -1,11 +1,8 @@
 -- What is laid for an answer, by the answer's case.
 -- Assumes nothing.
-use Prim.Native.Nat.{ℕ, _≤_}
-use mathlib.Core.Bool.{Bool, true, false, cond}
+use Prim.Native.Nat.{ℕ}
 use mathlib.Core.List.{List}
 use mathlib.Core.Path.{_≡_, sym, subst}
-use native.Mathlib.Omega.{arith}
-use lib.ListN.{length}
 use Rattle.head.specs.declared.Answer.{Answer}
 use Rattle.head.specs.declared.Answer.the-variants.{No}
 use Rattle.head.specs.declared.Refusal.{Refusal}
@@ -21,8 +18,3 @@ answered {at} {r} {b} {a} e l = subst (λ (z : Answer). Laid at (closingLine z) 
 pub refused : {at r k : ℕ} {b a : List ℕ} {x : Answer} {why : Refusal} → x ≡ No why → k ≡ numberOf why → Laid at (numbered (bytes "no ") k) r b a
     → Laid at (closingLine x) r b a
 refused {at} {r} {b = b} {a} e n l = answered e (subst (λ (j : ℕ). Laid at (numbered (bytes "no ") j) r b a) n l)
-
--- neither word of a test has more than six bytes
-pub flag-most : (yes : Bool) → length (cond yes (bytes "true\n") (bytes "false\n")) ≤ 6
-flag-most true = omega arith
-flag-most false = omega arith

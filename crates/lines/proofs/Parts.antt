@@ -13,7 +13,7 @@ use Rattle.digits.specs.Decimal.{digitsOf}
 use Rattle.digits.proofs.Laying.{laid-then, laid-size}
 use Rattle.head.specs.declared.Row.{Row}
 use Rattle.digits.proofs.Decimals.{digits-most}
-use Rattle.lines.specs.Lines.{bytes, field, rowWord, rowLine}
+use Rattle.lines.specs.Lines.{field, rowWord, rowLine}
 
 module _ {at next : ℕ} {b a : List ℕ} (word : List ℕ) (i : ℕ) (h : i < length word) (l : Laid at (take i word) next b a) where
   -- there is room for the word's next byte
@@ -33,11 +33,6 @@ field-most n e = omega (arith, length-append (digitsOf n) (e ∷ []), digits-mos
 pub row-word-most : (listed : Bool) → length (rowWord listed) ≤ 4
 row-word-most true = omega arith
 row-word-most false = omega arith
-
--- both ends of a line that says "now" have four bytes
-pub age-word-most : (new : Bool) → length (cond new (bytes "new\n") (bytes "old\n")) ≤ 4
-age-word-most true = omega arith
-age-word-most false = omega arith
 
 -- four fields and a word
 pub row-most : (listed : Bool) (e : Row) → length (rowLine (rowWord listed) e) ≤ 88

@@ -1,11 +1,10 @@
--- What is written for an answer, to the byte.
+-- What is written for an answer, to the byte. docs/SCRIPT.md has the same lines as a table.
 -- Assumes nothing.
-use Prim.Native.Nat.{ℕ, _+_, _≤_}
+use Prim.Native.Nat.{ℕ}
 use Prim.Native.Char.{code}
 use Prim.Native.String as text
 use mathlib.Core.Bool.{Bool, true, false, cond}
 use mathlib.Core.List.{List, [], _∷_, _++_}
-use lib.ListN.{length}
 use Rattle.head.specs.declared.Row.{Row}
 use Rattle.head.specs.declared.Answer.{Answer}
 use Rattle.head.specs.declared.Answer.the-variants.{No, New, Was, Is, Now, Absent, Entry, Done, Count, Flag}
@@ -64,10 +63,14 @@ rowLines word (e ∷ es) = rowLine word e ++ rowLines word es
 abbrev pub lines : List ℕ → List Row → Answer → List ℕ
 lines word rows a = rowLines word rows ++ closingLine a
 
--- room for any closing line and for any row, from a place on
-abbrev pub Roomy : ℕ → List ℕ → Type 0
-Roomy at buffer = at + 128 ≤ length buffer
-
 -- what a successful opening writes
 abbrev pub opened : List ℕ
 opened = bytes "ok\n"
+
+-- no number with the byte after it is longer
+abbrev pub mostField : ℕ
+mostField = 21
+
+-- no row's line and no closing line is longer
+abbrev pub mostLine : ℕ
+mostLine = 128

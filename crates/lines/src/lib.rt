@@ -2,9 +2,11 @@
 use head::Answer;
 use head::Row;
 ghost use mathlib.Core.Bool.{cond};
-ghost use mathlib.Core.List.{[], _∷_, _++_};
+ghost use mathlib.Core.List.{[], _∷_};
+ghost use Prim.Native.Nat.{_+_, _≤_};
+ghost use lib.ListN.{length};
 ghost use Rattle.digits.specs.Laid.{Room, Laid};
-ghost use Rattle.lines.specs.Lines.{bytes, field, numbered, nowLine, rowWord, rowLine, entryLines, closingLine, Roomy};
+ghost use Rattle.lines.specs.Lines.{field, numbered, nowLine, rowWord, rowLine, entryLines, closingLine, mostField, mostLine};
 
 fn write_word(buffer: &mut [u8], at: usize, word: &[u8]) -> usize
     requires { ⌜ Room at (now word) (now buffer) ⌝ }
@@ -21,7 +23,7 @@ fn write_word(buffer: &mut [u8], at: usize, word: &[u8]) -> usize
 
 // One of two words.
 fn write_either(buffer: &mut [u8], at: usize, first: bool, one: &[u8], other: &[u8]) -> usize
-    requires { ⌜ Room at (cond first (now one) (now other)) (now buffer) ⌝ }
+    requires { ⌜ Room at (now one) (now buffer) × Room at (now other) (now buffer) ⌝ }
     ensures { λ r. ⌜ Laid at (cond first (now (one .entry)) (now (other .entry))) r (now (buffer .entry)) (now (buffer .exit)) ⌝ }
 {
     if first {
@@ -32,7 +34,7 @@ fn write_either(buffer: &mut [u8], at: usize, first: bool, one: &[u8], other: &[
 
 // A number and the byte after it.
 fn write_field(buffer: &mut [u8], at: usize, n: u64, end: u8) -> usize
-    requires { ⌜ Room at (field n (end ∷ [])) (now buffer) ⌝ }
+    requires { ⌜ at + mostField ≤ length (now buffer) ⌝ }
     ensures { λ r. ⌜ Laid at (field n (end ∷ [])) r (now (buffer .entry)) (now (buffer .exit)) ⌝ }
 {
     let next = digits::write(buffer, at, n);
@@ -41,7 +43,7 @@ fn write_field(buffer: &mut [u8], at: usize, n: u64, end: u8) -> usize
 
 // A word, a number and the end of the line.
 fn write_numbered(buffer: &mut [u8], at: usize, word: &[u8], n: u64) -> usize
-    requires { ⌜ Room at (numbered (now word) n) (now buffer) ⌝ }
+    requires { ⌜ at + (length (now word) + mostField) ≤ length (now buffer) ⌝ }
     ensures { λ r. ⌜ Laid at (numbered (now (word .entry)) n) r (now (buffer .entry)) (now (buffer .exit)) ⌝ }
 {
     let next = write_word(buffer, at, word);
@@ -50,7 +52,7 @@ fn write_numbered(buffer: &mut [u8], at: usize, word: &[u8], n: u64) -> usize
 
 // The line of a row: listed, or of an entry that went out.
 pub fn write_row(buffer: &mut [u8], at: usize, listed: bool, row: Row) -> usize
-    requires { ⌜ Roomy at (now buffer) ⌝ }
+    requires { ⌜ at + mostLine ≤ length (now buffer) ⌝ }
     ensures { λ r. ⌜ Laid at (rowLine (rowWord listed) row) r (now (buffer .entry)) (now (buffer .exit)) ⌝ }
 {
     let code = row.code;
@@ -63,7 +65,7 @@ pub fn write_row(buffer: &mut [u8], at: usize, listed: bool, row: Row) -> usize
 }
 
 fn write_now(buffer: &mut [u8], at: usize, value: u64, new: bool) -> usize
-    requires { ⌜ Roomy at (now buffer) ⌝ }
+    requires { ⌜ at + mostLine ≤ length (now buffer) ⌝ }
     ensures { λ r. ⌜ Laid at (nowLine value new) r (now (buffer .entry)) (now (buffer .exit)) ⌝ }
 {
     let a = write_word(buffer, at, b"now ");
@@ -72,7 +74,7 @@ fn write_now(buffer: &mut [u8], at: usize, value: u64, new: bool) -> usize
 }
 
 fn write_entry(buffer: &mut [u8], at: usize, row: Row) -> usize
-    requires { ⌜ Roomy at (now buffer) ⌝ }
+    requires { ⌜ at + mostLine ≤ length (now buffer) ⌝ }
     ensures { λ r. ⌜ Laid at (entryLines row) r (now (buffer .entry)) (now (buffer .exit)) ⌝ }
 {
     let next = write_row(buffer, at, true, row);
@@ -81,7 +83,7 @@ fn write_entry(buffer: &mut [u8], at: usize, row: Row) -> usize
 
 // The closing line of an answer.
 pub fn write_answer(buffer: &mut [u8], at: usize, answer: Answer) -> usize
-    requires { ⌜ Roomy at (now buffer) ⌝ }
+    requires { ⌜ at + mostLine ≤ length (now buffer) ⌝ }
     ensures { λ r. ⌜ Laid at (closingLine answer) r (now (buffer .entry)) (now (buffer .exit)) ⌝ }
 {
     match answer {

@@ -1,8 +1,7 @@
 -- `lines::write_answer` meets its contract: each arm lays the line of its case.
 -- Assumes nothing.
 use native.Mathlib.Omega.{arith}
-use Rattle.lines.proofs.Parts.{field-most}
-use Rattle.lines.proofs.Answers.{answered, refused, flag-most}
+use Rattle.lines.proofs.Answers.{answered, refused}
 use borrow.Author.Needs.{needs}
 use Rattle.lines.proofs.write_answer.Statement.{statement}
 use Rattle.lines.proofs.write_answer.Tie as tie
@@ -20,7 +19,7 @@ cast-write-numbered : tie.Need-cast-write-numbered
 cast-write-numbered c = search needs
 
 write-numbered-requires : tie.Need-write-numbered-requires
-write-numbered-requires c κs = omega (arith, field-most (c .number .result) 10)
+write-numbered-requires c κs = omega arith
 
 enum-told : tie.Need-enum-told
 enum-told c = search needs
@@ -38,7 +37,7 @@ slice-aggregate-write-numbered-2 : tie.Need-slice-aggregate-write-numbered-2
 slice-aggregate-write-numbered-2 c = search needs
 
 write-numbered-requires-2 : tie.Need-write-numbered-requires-2
-write-numbered-requires-2 c κs = omega (arith, field-most (c .before .before .before .answer2 .given .0 .0) 10)
+write-numbered-requires-2 c κs = omega arith
 
 enum-known-answer-3 : tie.Need-enum-known-answer-3
 enum-known-answer-3 c = search needs
@@ -47,7 +46,7 @@ slice-aggregate-write-numbered-3 : tie.Need-slice-aggregate-write-numbered-3
 slice-aggregate-write-numbered-3 c = search needs
 
 write-numbered-requires-3 : tie.Need-write-numbered-requires-3
-write-numbered-requires-3 c κs = omega (arith, field-most (c .before .before .before .answer3 .given .0 .0) 10)
+write-numbered-requires-3 c κs = omega arith
 
 enum-known-answer-4 : tie.Need-enum-known-answer-4
 enum-known-answer-4 c = search needs
@@ -86,7 +85,7 @@ slice-aggregate-write-numbered-4 : tie.Need-slice-aggregate-write-numbered-4
 slice-aggregate-write-numbered-4 c = search needs
 
 write-numbered-requires-4 : tie.Need-write-numbered-requires-4
-write-numbered-requires-4 c κs = omega (arith, field-most (c .before .before .before .answer6 .given .0 .0) 10)
+write-numbered-requires-4 c κs = omega arith
 
 enum-known-answer-7 : tie.Need-enum-known-answer-7
 enum-known-answer-7 c = search needs
@@ -98,7 +97,7 @@ slice-aggregate-write-either-2 : tie.Need-slice-aggregate-write-either-2
 slice-aggregate-write-either-2 c = search needs
 
 write-either-requires : tie.Need-write-either-requires
-write-either-requires c κs = omega (arith, flag-most (c .before .before .before .before .answer7 .given .0 .0))
+write-either-requires c κs = omega arith
 
 same-length : tie.Need-same-length
 same-length c = search needs

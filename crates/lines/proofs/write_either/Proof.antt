@@ -5,7 +5,7 @@ use Rattle.lines.proofs.write_either.Statement.{statement}
 use Rattle.lines.proofs.write_either.Tie as tie
 
 write-word-requires : tie.Need-write-word-requires
-write-word-requires c κs = rw (c .before .if1 .taken) at (c .before .before .before .before .before .pre)
+write-word-requires c κs = c .before .before .before .before .before .pre .0
 
 same-length : tie.Need-same-length
 same-length c = search needs
@@ -14,7 +14,7 @@ returns : tie.Need-returns
 returns c = rw (c .before .before .before .before .if1 .taken) (c .before .before .write-word .ensures)
 
 write-word-requires-2 : tie.Need-write-word-requires-2
-write-word-requires-2 c κs = rw (c .before .if1 .left) at (c .before .before .before .before .before .pre)
+write-word-requires-2 c κs = c .before .before .before .before .before .pre .1
 
 same-length-2 : tie.Need-same-length-2
 same-length-2 c = search needs

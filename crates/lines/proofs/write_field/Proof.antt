@@ -1,21 +1,18 @@
 -- `lines::write_field` meets its contract.
 -- Assumes nothing.
 use native.Mathlib.Omega.{arith}
-use mathlib.Core.List.{[], _∷_}
-use lib.ListN.{length-append}
 use borrow.Author.Needs.{needs}
-use Rattle.digits.specs.Decimal.{digitsOf}
+use Rattle.digits.proofs.Decimals.{digits-most}
 use Rattle.digits.proofs.Laying.{laid-then}
 use Rattle.lines.proofs.write_field.Statement.{statement}
 use Rattle.lines.proofs.write_field.Tie as tie
 
 write-requires : tie.Need-write-requires
-write-requires c κs = omega (arith, length-append (digitsOf (c .before .before .args .n)) (c .before .before .args .end ∷ []))
+write-requires c κs = omega (arith, digits-most (c .before .before .args .n))
 
 put-requires : tie.Need-put-requires
 put-requires c κs =
-    let a = c .before .before .before .before .before .before .args in
-    omega (arith, length-append (digitsOf (a .n)) (a .end ∷ []), c .before .before .before .write .ensures .next, c .before .before .before .write .kept .0, c .before .before .before .before .before .before .pre)
+    omega (arith, digits-most (c .before .before .before .before .before .before .args .n), c .before .before .before .write .ensures .next, c .before .before .before .write .kept .0, c .before .before .before .before .before .before .pre)
 
 same-length : tie.Need-same-length
 same-length c = search needs

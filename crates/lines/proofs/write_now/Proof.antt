@@ -1,8 +1,10 @@
 -- `lines::write_now` meets its contract.
 -- Assumes nothing.
+use Prim.Native.Nat.{_+_, _≤_}
 use native.Mathlib.Omega.{arith}
 use Rattle.digits.proofs.Laying.{laid-then}
-use Rattle.lines.proofs.Parts.{behind, field-most, age-word-most}
+use Rattle.lines.proofs.Parts.{behind, field-most}
+use lib.ListN.{length}
 use borrow.Author.Needs.{needs}
 use Rattle.lines.proofs.write_now.Statement.{statement}
 use Rattle.lines.proofs.write_now.Tie as tie
@@ -13,9 +15,12 @@ slice-aggregate-write-word c = search needs
 write-word-requires : tie.Need-write-word-requires
 write-word-requires c κs = search needs
 
+-- the room behind the word
+room : (c : tie.After-write-word) → c .write-word .result + 124 ≤ length (c .write-word .last .0)
+room c = behind 4 124 (omega arith) (c .write-word .ensures) (c .before .before .before .before .pre)
+
 write-field-requires : tie.Need-write-field-requires
-write-field-requires c κs =
-    omega (arith, field-most (c .before .before .before .before .before .before .before .args .value) 32, behind 4 124 (omega arith) (c .before .before .before .write-word .ensures) (c .before .before .before .before .before .before .before .pre))
+write-field-requires c κs = omega (arith, room (c .before .before .before))
 
 slice-aggregate-write-either : tie.Need-slice-aggregate-write-either
 slice-aggregate-write-either c = search needs
@@ -25,8 +30,8 @@ slice-aggregate-write-either-2 c = search needs
 
 write-either-requires : tie.Need-write-either-requires
 write-either-requires c κs =
-    let a = c .before .before .before .before .before .before .before .before .before .before .before .before .before .args in
-    omega (arith, age-word-most (a .new), behind 21 103 (field-most (a .value) 32) (c .before .before .before .before .before .write-field .ensures) (behind 4 124 (omega arith) (c .before .before .before .before .before .before .before .before .before .write-word .ensures) (c .before .before .before .before .before .before .before .before .before .before .before .before .before .pre)))
+    let left = behind 21 103 (field-most _ _) (c .before .before .before .before .before .write-field .ensures) (room (c .before .before .before .before .before .before .before .before .before)) in
+    omega arith
 
 same-length : tie.Need-same-length
 same-length c = search needs

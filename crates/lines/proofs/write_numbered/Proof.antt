@@ -1,23 +1,16 @@
 -- `lines::write_numbered` meets its contract.
 -- Assumes nothing.
 use native.Mathlib.Omega.{arith}
-use mathlib.Core.List.{[], _∷_}
-use lib.ListN.{length-append}
 use Rattle.digits.proofs.Laying.{laid-then}
-use Rattle.lines.specs.Lines.{field}
 use borrow.Author.Needs.{needs}
 use Rattle.lines.proofs.write_numbered.Statement.{statement}
 use Rattle.lines.proofs.write_numbered.Tie as tie
 
 write-word-requires : tie.Need-write-word-requires
-write-word-requires c κs =
-    let a = c .before .before .before .args in
-    omega (arith, length-append (a .word .now) (field (a .n) (10 ∷ [])))
+write-word-requires c κs = omega arith
 
 write-field-requires : tie.Need-write-field-requires
-write-field-requires c κs =
-    let a = c .before .before .before .before .before .before .before .args in
-    omega (arith, length-append (a .word .now) (field (a .n) (10 ∷ [])), c .before .before .before .write-word .ensures .next, c .before .before .before .write-word .kept .0, c .before .before .before .before .before .before .before .pre)
+write-field-requires c κs = omega (arith, c .before .before .before .write-word .ensures .next, c .before .before .before .write-word .kept .0, c .before .before .before .before .before .before .before .pre)
 
 same-length : tie.Need-same-length
 same-length c = search needs
