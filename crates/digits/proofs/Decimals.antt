@@ -7,16 +7,16 @@ use mathlib.Core.Path.{_≡_, refl, sym, ap, _∙_}
 use native.Mathlib.Omega.{arith}
 use lib.Dec.{ltb}
 use lib.ListN.{length, length-append}
-use borrow.Author.Tests.{ltb-true, ltb-false, lt-ltb, le-ltb}
+use borrow.Author.Tests.{lt-ltb, le-ltb}
 use Rattle.digits.specs.Decimal.{digitByte, digitsBefore, digitsOf}
 
 -- by cases on a test
-split : {P : Type 0} (b : Bool) → (b ≡ true → P) → (b ≡ false → P) → P
+pub split : {P : Type 0} (b : Bool) → (b ≡ true → P) → (b ≡ false → P) → P
 split true f g = f refl
 split false f g = g refl
 
 -- the first number with more than k + 1 digits
-abbrev most : ℕ → ℕ
+abbrev pub most : ℕ → ℕ
 most zero = 10
 most (suc k) = most k * 10
 

@@ -1,13 +1,13 @@
 -- Bytes laid one after another.
 -- Assumes nothing.
-use Prim.Native.Nat.{ℕ, suc, _+_, _≤_, _<_}
+use Prim.Native.Nat.{ℕ, _+_, _≤_, _<_}
 use mathlib.Core.List.{List, [], _∷_, _++_, append-assoc}
 use mathlib.Core.Path.{_≡_, refl, sym, ap, _∙_}
 use native.Mathlib.Omega.{arith}
 use native.Mathlib.Numerals.{add-one}
 use lib.ListN.{length, take, drop, set, length-append, length-drop, take-append-drop}
 use lib.Seq.{length-take-le, set-split, take-at, drop-at, drop-drop}
-use Rattle.digits.specs.Laid.{Room, Laid}
+use Rattle.digits.specs.Laid.{Laid}
 
 -- nothing laid
 pub laid-none : (at : ℕ) (b : List ℕ) → at ≤ length b → Laid at [] at b b

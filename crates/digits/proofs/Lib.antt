@@ -1,3 +1,4 @@
 pub mod Laying
 pub mod Decimals
 pub mod Writing
+pub mod Values

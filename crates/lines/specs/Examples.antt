@@ -2,11 +2,11 @@
 -- Assumes nothing.
 use Prim.Native.Nat.{ℕ}
 use mathlib.Core.Bool.{true, false}
-use mathlib.Core.List.{List, [], _∷_, _++_}
+use mathlib.Core.List.{[], _∷_, _++_}
 use mathlib.Core.Path.{_≡_, refl}
 use Rattle.head.specs.declared.Row.{Row}
 use Rattle.head.specs.declared.Answer.the-variants.{No, New, Was, Is, Now, Absent, Entry, Done, Count, Flag}
-use Rattle.head.specs.declared.Refusal.the-variants.{TooHeavy, NotUnderstood}
+use Rattle.head.specs.declared.Refusal.the-variants.{TooHeavy}
 use Rattle.digits.specs.Decimal.{digitsOf}
 use Rattle.lines.specs.Lines.{bytes, rowWord, lines, closingLine, opened}
 
