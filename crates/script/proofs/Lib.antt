@@ -1,0 +1,4 @@
+pub mod Reading
+pub mod Saying
+pub mod Numeral
+pub mod Roundtrip

@@ -1,0 +1,33 @@
+-- `turn::lists` meets its contract.
+-- Assumes nothing.
+use mathlib.Core.Path.{refl}
+use Rattle.turn.proofs.Replying.{lists-as}
+use borrow.Author.Needs.{needs}
+use Rattle.turn.proofs.lists.Statement.{statement}
+use Rattle.turn.proofs.lists.Tie as tie
+
+enum-told : tie.Need-enum-told
+enum-told c = search needs
+
+enum-known-line : tie.Need-enum-known-line
+enum-known-line c = search needs
+
+listing-requires : tie.Need-listing-requires
+listing-requires c κs = search needs
+
+enum-told-2 : tie.Need-enum-told-2
+enum-told-2 c = search needs
+
+returns : tie.Need-returns
+returns c = lists-as (c .before .before .args .line) _ _ (c .enum-told .given .1) refl
+
+returns-2 : tie.Need-returns-2
+returns-2 c = lists-as (c .before .before .before .before .args .line) _ _ (c .before .before .line .given .1) (c .listing .ensures)
+
+returns-3 : tie.Need-returns-3
+returns-3 c = lists-as (c .before .before .args .line) _ _ (c .enum-told2 .given .1) refl
+
+pub lists-spec : {M : Type 1} → statement M
+lists-spec =
+    tie.close
+    (tie.spec enum-told enum-known-line listing-requires enum-told-2 returns returns-2 returns-3)

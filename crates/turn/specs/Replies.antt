@@ -1,0 +1,82 @@
+-- What is written for an answer and its rows.
+-- Assumes nothing.
+use Prim.Native.Nat.{ℕ, suc, _*_, _≤_, min}
+use mathlib.Core.Bool.{Bool, true, false}
+use mathlib.Core.List.{List, []}
+use lib.ListN.{length}
+use Rattle.head.specs.declared.Row.{Row}
+use Rattle.head.specs.declared.Answer.{Answer}
+use Rattle.head.specs.declared.Answer.the-variants.{No, New, Was, Is, Now, Absent, Entry, Done, Count, Flag}
+use Rattle.head.specs.declared.Command.{Command}
+use Rattle.head.specs.declared.Command.the-variants.{Len, Capacity, Weight, IsEmpty, IsFull, Front, Back, Peek, Contains, List as ListFront, ListBack, Get, Pop, PopFront, PopBack, Put, PutWithWeight, Clear, Retain, Resize, PutOrModify, TryPutOrModify, GetMut, PeekMut, FrontMut, BackMut}
+use Rattle.head.specs.Fields.{Fields, Reach}
+use Rattle.model.specs.Slots.{upFrom}
+use Rattle.store.specs.State.{gather}
+use Rattle.lines.specs.Lines.{mostLine, rowWord, lines}
+use Rattle.script.specs.declared.Line.{Line}
+use Rattle.script.specs.declared.Line.the-variants.{Open, Call, Unknown}
+
+-- a listing's rows stay in the cache; those of every other call have left it
+abbrev pub isListing : Command → Bool
+isListing Len = false
+isListing Capacity = false
+isListing Weight = false
+isListing IsEmpty = false
+isListing IsFull = false
+isListing Front = false
+isListing Back = false
+isListing (Peek c) = false
+isListing (Contains c) = false
+isListing ListFront = true
+isListing ListBack = true
+isListing (Get c) = false
+isListing (Pop c) = false
+isListing PopFront = false
+isListing PopBack = false
+isListing (Put c s v) = false
+isListing (PutWithWeight c s v w) = false
+isListing Clear = false
+isListing (Retain q) = false
+isListing (Resize n) = false
+isListing (PutOrModify c s n) = false
+isListing (TryPutOrModify c s n most) = false
+isListing (GetMut c v) = false
+isListing (PeekMut c v) = false
+isListing (FrontMut v) = false
+isListing (BackMut v) = false
+
+-- the same of a line
+abbrev pub listed : Line → Bool
+listed (Open kind c n) = false
+listed (Call m) = isListing m
+listed Unknown = false
+
+-- how many rows an answer counts
+abbrev pub rowCount : Answer → ℕ
+rowCount (No r) = 0
+rowCount (New rows) = rows
+rowCount (Was v rows) = rows
+rowCount (Is v) = 0
+rowCount (Now v new rows) = rows
+rowCount Absent = 0
+rowCount (Entry e) = 0
+rowCount (Done rows) = rows
+rowCount (Count k) = 0
+rowCount (Flag b) = 0
+
+-- the first n rows of four lists
+abbrev pub rowsFrom : ℕ → Fields → List Row
+rowsFrom n f = gather f (upFrom 0 n)
+
+-- the lists have n rows, and the buffer room for their lines and one more
+pub record Roomy (n : ℕ) (rows : Fields) (buffer : List ℕ) : Type 0 where
+  pub reach : Reach n rows
+  pub room : suc n * mostLine ≤ length buffer
+
+-- how many rows are written: those that the answer counts, which are never more than the lists hold
+abbrev pub shown : Answer → Fields → ℕ
+shown a rows = min (min (min (min (rowCount a) (length (rows .codes))) (length (rows .stamps))) (length (rows .values))) (length (rows .weights))
+
+-- the whole text of an answer with its rows in four lists
+abbrev pub replied : Bool → Fields → Answer → List ℕ
+replied stay rows a = lines (rowWord stay) (rowsFrom (shown a rows) rows) a
