@@ -13,11 +13,15 @@ use Rattle.head.specs.Fields.{Fields, Reach}
 use Rattle.model.specs.Slots.{upFrom}
 use Rattle.store.specs.State.{entryIn, gather}
 use Rattle.store.specs.Acts.{Writable}
+use Rattle.door.specs.Served.{shortest}
 use Rattle.digits.specs.Laid.{Laid}
 use Rattle.digits.proofs.Laying.{laid-none, laid-size, laid-then}
 use Rattle.lines.specs.Lines.{rowWord, rowLine, rowLines, closingLine, mostLine}
 use Rattle.lines.proofs.Parts.{row-most}
 use Rattle.script.specs.declared.Line.{Line}
+use Rattle.plan.specs.States.{State}
+use Rattle.turn.specs.Turned.{Turns}
+use Rattle.turn.specs.Took.{Took}
 use Rattle.turn.specs.Replies.{isListing, listed, rowCount, rowsFrom, Roomy, shown, replied}
 
 -- ---- by cases
@@ -122,3 +126,60 @@ closing-room stay f a {d} {at} {b₀} {b₁} e p l =
 
 pub roomy-as : (a : Answer) (f : Fields) {d : ℕ} {b : List ℕ} → d ≡ shown a f → Roomy (shown a f) f b → Roomy d f b
 roomy-as a f e p = rw e p
+
+-- ---- room for the rows shown
+
+min-left : (a b : ℕ) → min a b ≤ a
+min-left a b = omega arith
+
+min-right : (a b : ℕ) → min a b ≤ b
+min-right a b = omega arith
+
+min-both : (x a b : ℕ) → x ≤ a → x ≤ b → x ≤ min a b
+min-both x a b p q = omega arith
+
+through : {a b c : ℕ} → a ≤ b → b ≤ c → a ≤ c
+through p q = omega arith
+
+fewer-fit : (x y l : ℕ) → x ≤ y → suc y * mostLine ≤ l → suc x * mostLine ≤ l
+fewer-fit x y l p q = omega arith
+
+module _ (n a b c d : ℕ) where
+  -- no more than the first, the second, the third and the fourth
+  min-first : min (min (min (min n a) b) c) d ≤ a
+  min-first = through (min-left (min (min (min n a) b) c) d) (through (min-left (min (min n a) b) c) (through (min-left (min n a) b) (min-right n a)))
+
+  min-second : min (min (min (min n a) b) c) d ≤ b
+  min-second = through (min-left (min (min (min n a) b) c) d) (through (min-left (min (min n a) b) c) (min-right (min n a) b))
+
+  min-third : min (min (min (min n a) b) c) d ≤ c
+  min-third = through (min-left (min (min (min n a) b) c) d) (min-right (min (min n a) b) c)
+
+-- the rows shown are no more than the lists hold, so there is room for them
+shown-room : (a : Answer) (g : Fields) {b : List ℕ} → suc (shortest g) * mostLine ≤ length b → Roomy (shown a g) g b
+shown-room a g {b} h =
+    let n = rowCount a in
+    let p = min-first n (length (g .codes)) (length (g .stamps)) (length (g .values)) (length (g .weights)) in
+    let q = min-second n (length (g .codes)) (length (g .stamps)) (length (g .values)) (length (g .weights)) in
+    let r = min-third n (length (g .codes)) (length (g .stamps)) (length (g .values)) (length (g .weights)) in
+    let s = min-right (min (min (min n (length (g .codes))) (length (g .stamps))) (length (g .values))) (length (g .weights)) in
+    record {
+      reach = record { codes = p; stamps = q; values = r; weights = s };
+      room = fewer-fit (shown a g) (shortest g) (length b)
+          (min-both (shown a g) _ _ p (min-both (shown a g) _ _ q (min-both (shown a g) _ _ r s))) h;
+    }
+
+-- lists of the same lengths hold as many
+pub taken-room : (a : Answer) (f g : Fields) {b : List ℕ} → length (g .codes) ≡ length (f .codes) → length (g .stamps) ≡ length (f .stamps)
+    → length (g .values) ≡ length (f .values)
+    → length (g .weights) ≡ length (f .weights)
+    → suc (shortest f) * mostLine ≤ length b
+    → Roomy (shown a g) g b
+taken-room a f g p q r s h = shown-room a g (rw (p, q, r, s) h)
+
+-- the text by the line that was understood
+pub took : {l k : Line} {stay : Bool} {s t : State} {f g : Fields} {a : Answer} {r : ℕ} {b b' : List ℕ} → l ≡ k → stay ≡ listed l → Turns l s t f g a
+    → Laid 0 (replied stay g a) r b b'
+    → Took k s t f g a r b b'
+took {l} {k} {s = s} {t} {f} {g} {a} {r} {b} {b'} e q p z =
+    subst (λ (x : Line). Took x s t f g a r b b') e (record { turns = p; text = rw (← q) z })

@@ -13,7 +13,10 @@ ghost use Rattle.store.specs.State.{fields};
 ghost use Rattle.plan.specs.States.{state};
 ghost use Rattle.digits.specs.Laid.{Laid};
 ghost use Rattle.lines.specs.Lines.{rowWord, rowLines};
+ghost use lib.Seq.{slice};
+ghost use Rattle.script.specs.Grammar.{understood};
 ghost use Rattle.turn.specs.Turned.{begun, Turns};
+ghost use Rattle.turn.specs.Took.{Takes, Took};
 ghost use Rattle.turn.specs.Replies.{isListing, listed, rowCount, rowsFrom, Roomy, shown, replied};
 
 // What opening says: the fresh head, or the refusal beside the head that stood.
@@ -245,4 +248,70 @@ pub fn reply(
         d,
     );
     lines::write_answer(buffer, at, answer)
+}
+
+// What a line left: the head, the answer, and how much of the buffer its text takes.
+pub struct Turned {
+    pub head: Head,
+    pub answer: Answer,
+    pub size: usize,
+}
+
+// One line, from its bytes to the text of its answer.
+pub fn take(
+    input: &[u8],
+    from: usize,
+    to: usize,
+    head: Head,
+    codes: &mut [u64],
+    stamps: &mut [u32],
+    values: &mut [u64],
+    weights: &mut [u64],
+    next: &mut [u32],
+    prev: &mut [u32],
+    stack: &mut [u32],
+    cells: &mut [u32],
+    row_codes: &mut [u64],
+    row_stamps: &mut [u32],
+    row_values: &mut [u64],
+    row_weights: &mut [u64],
+    out: &mut [u8],
+) -> Turned
+    requires { ⌜ Takes (now input) from to (fields (now «row_codes») (now «row_stamps») (now «row_values») (now «row_weights»)) (now out) ⌝ }
+    ensures { λ r. ⌜ Took (understood (slice from to (now (input .entry)))) (state head (now (codes .entry)) (now (stamps .entry)) (now (values .entry)) (now (weights .entry)) (now (next .entry)) (now (prev .entry)) (now (stack .entry)) (now (cells .entry))) (state (r .head) (now (codes .exit)) (now (stamps .exit)) (now (values .exit)) (now (weights .exit)) (now (next .exit)) (now (prev .exit)) (now (stack .exit)) (now (cells .exit))) (fields (now («row_codes» .entry)) (now («row_stamps» .entry)) (now («row_values» .entry)) (now («row_weights» .entry))) (fields (now («row_codes» .exit)) (now («row_stamps» .exit)) (now («row_values» .exit)) (now («row_weights» .exit))) (r .answer) (r .size) (now (out .entry)) (now (out .exit)) ⌝ }
+{
+    let line = script::understand(input, from, to);
+    let stay = lists(line);
+    let said = carry_out(
+        head,
+        codes,
+        stamps,
+        values,
+        weights,
+        next,
+        prev,
+        stack,
+        cells,
+        row_codes,
+        row_stamps,
+        row_values,
+        row_weights,
+        line,
+    );
+    let answer = said.answer;
+    let size = reply(
+        out,
+        stay,
+        row_codes,
+        row_stamps,
+        row_values,
+        row_weights,
+        answer,
+    );
+    let left = said.head;
+    Turned {
+        head: left,
+        answer,
+        size,
+    }
 }
