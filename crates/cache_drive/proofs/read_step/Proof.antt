@@ -1,0 +1,122 @@
+-- `cache_drive::read_step` is safe.
+-- Assumes nothing.
+use borrow.Author.Needs.{needs}
+use Rattle.cache_drive.proofs.read_step.Statement.{statement}
+use Rattle.cache_drive.proofs.read_step.Tie as tie
+
+enum-told : tie.Need-enum-told
+enum-told c = search needs
+
+len-requires : tie.Need-len-requires
+len-requires c κs = tt
+
+enum-told-2 : tie.Need-enum-told-2
+enum-told-2 c = search needs
+
+capacity-requires : tie.Need-capacity-requires
+capacity-requires c κs = tt
+
+enum-told-3 : tie.Need-enum-told-3
+enum-told-3 c = search needs
+
+weight-requires : tie.Need-weight-requires
+weight-requires c κs = tt
+
+enum-told-4 : tie.Need-enum-told-4
+enum-told-4 c = search needs
+
+is-empty-requires : tie.Need-is-empty-requires
+is-empty-requires c κs = tt
+
+enum-told-5 : tie.Need-enum-told-5
+enum-told-5 c = search needs
+
+is-full-requires : tie.Need-is-full-requires
+is-full-requires c κs = tt
+
+enum-told-6 : tie.Need-enum-told-6
+enum-told-6 c = search needs
+
+front-requires : tie.Need-front-requires
+front-requires c κs = tt
+
+enum-told-7 : tie.Need-enum-told-7
+enum-told-7 c = search needs
+
+back-requires : tie.Need-back-requires
+back-requires c κs = tt
+
+enum-known-command : tie.Need-enum-known-command
+enum-known-command c = search needs
+
+peek-requires : tie.Need-peek-requires
+peek-requires c κs = tt
+
+enum-known-command-2 : tie.Need-enum-known-command-2
+enum-known-command-2 c = search needs
+
+contains-requires : tie.Need-contains-requires
+contains-requires c κs = tt
+
+returns : tie.Need-returns
+returns c = tt
+
+returns-2 : tie.Need-returns-2
+returns-2 c = tt
+
+returns-3 : tie.Need-returns-3
+returns-3 c = tt
+
+returns-4 : tie.Need-returns-4
+returns-4 c = tt
+
+returns-5 : tie.Need-returns-5
+returns-5 c = tt
+
+returns-6 : tie.Need-returns-6
+returns-6 c = tt
+
+returns-7 : tie.Need-returns-7
+returns-7 c = tt
+
+returns-8 : tie.Need-returns-8
+returns-8 c = tt
+
+returns-9 : tie.Need-returns-9
+returns-9 c = tt
+
+returns-10 : tie.Need-returns-10
+returns-10 c = tt
+
+pub read-step-spec : {M : Type 1} → statement M
+read-step-spec =
+    tie.close
+    (tie.spec
+    enum-told
+    len-requires
+    enum-told-2
+    capacity-requires
+    enum-told-3
+    weight-requires
+    enum-told-4
+    is-empty-requires
+    enum-told-5
+    is-full-requires
+    enum-told-6
+    front-requires
+    enum-told-7
+    back-requires
+    enum-known-command
+    peek-requires
+    enum-known-command-2
+    contains-requires
+    returns
+    returns-2
+    returns-3
+    returns-4
+    returns-5
+    returns-6
+    returns-7
+    returns-8
+    returns-9
+    returns-10)
