@@ -268,7 +268,7 @@ fn weights_run(i: u32) -> Turn {
     }
 }
 
-// Examples H, I and J: resizing, with and without holes.
+// Examples H, I and J: resizing, with and without holes; and a shrink that leaves two slots free, of which the higher is taken first.
 fn sizes(i: u32) -> Turn {
     match i {
         0 => opening(1, 10, 4),
@@ -290,7 +290,17 @@ fn sizes(i: u32) -> Turn {
         16 => put(30, 7, 3),
         17 => coded(POP, 20),
         18 => number(RESIZE, 3),
-        _ => put(50, 7, 5),
+        19 => put(50, 7, 5),
+        20 => opening(0, 6, 6),
+        21 => put(1, 7, 100),
+        22 => put(2, 7, 200),
+        23 => put(3, 7, 300),
+        24 => put(4, 7, 400),
+        25 => put(5, 7, 500),
+        26 => coded(POP, 2),
+        27 => coded(POP, 4),
+        28 => number(RESIZE, 5),
+        _ => put(6, 7, 600),
     }
 }
 
@@ -515,7 +525,7 @@ fn damages(i: u32) -> Turn {
 }
 
 // All turns, scene by scene.
-const TURNS: u32 = 276;
+const TURNS: u32 = 286;
 
 fn turn_at(i: u32) -> Turn {
     if i < 23 {
@@ -530,28 +540,28 @@ fn turn_at(i: u32) -> Turn {
     if i < 78 {
         return weights_run(i - 58);
     }
-    if i < 98 {
+    if i < 108 {
         return sizes(i - 78);
     }
-    if i < 116 {
-        return slots_run(i - 98);
+    if i < 126 {
+        return slots_run(i - 108);
     }
-    if i < 139 {
-        return rows_run(i - 116);
+    if i < 149 {
+        return rows_run(i - 126);
     }
-    if i < 166 {
-        return kinds(i - 139);
+    if i < 176 {
+        return kinds(i - 149);
     }
-    if i < 196 {
-        return setting(i - 166);
+    if i < 206 {
+        return setting(i - 176);
     }
-    if i < 216 {
-        return sweeps(i - 196);
+    if i < 226 {
+        return sweeps(i - 206);
     }
-    if i < 242 {
-        return doors(i - 216);
+    if i < 252 {
+        return doors(i - 226);
     }
-    damages(i - 242)
+    damages(i - 252)
 }
 
 // ---- what a turn asks
