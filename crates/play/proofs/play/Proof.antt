@@ -1,15 +1,15 @@
--- `desk::play` keeps every list's length, so each line finds the room that it needs. The measure is how many bytes are left.
+-- `play::play` keeps every list's length, so each line finds the room that it needs. The measure is how many bytes are left.
 -- Assumes nothing.
 use Prim.Native.Nat.{_-_}
 use mathlib.Core.Path.{_≡_, sym, _∙_}
 use lib.ListN.{length}
 use lib.Seq.{length-take-le}
 use Rattle.store.specs.State.{fields}
-use Rattle.desk.proofs.Room.{room-stays, text-fits}
+use Rattle.play.proofs.Room.{room-stays, text-fits}
 use mathlib.Core.Path.{refl}
 use native.Mathlib.Omega.{arith}
-use Rattle.desk.proofs.play.Statement.{statement}
-use Rattle.desk.proofs.play.Tie as tie
+use Rattle.play.proofs.play.Statement.{statement}
+use Rattle.play.proofs.play.Tie as tie
 
 abbrev Inv-loop : tie.InvT-loop
 Inv-loop input n codes₀ stamps₀ values₀ weights₀ next₀ prev₀ stack₀ cells₀ row-codes₀ row-stamps₀ row-values₀ row-weights₀ out₀ head₀ from₀ codes stamps values weights next prev stack cells row-codes row-stamps row-values row-weights out head from = (length codes ≡ length codes₀) × (length stamps ≡ length stamps₀) × (length values ≡ length values₀) × (length weights ≡ length weights₀) × (length next ≡ length next₀) × (length prev ≡ length prev₀) × (length stack ≡ length stack₀) × (length cells ≡ length cells₀) × (length row-codes ≡ length row-codes₀) × (length row-stamps ≡ length row-stamps₀) × (length row-values ≡ length row-values₀) × (length row-weights ≡ length row-weights₀) × (length out ≡ length out₀)

@@ -1,9 +1,9 @@
--- `desk::line_end` meets its contract. The measure is how many bytes are left.
+-- `play::line_end` meets its contract. The measure is how many bytes are left.
 -- Assumes nothing.
 use Prim.Native.Nat.{_-_, _≤_}
 use native.Mathlib.Omega.{arith}
-use Rattle.desk.proofs.line_end.Statement.{statement}
-use Rattle.desk.proofs.line_end.Tie as tie
+use Rattle.play.proofs.line_end.Statement.{statement}
+use Rattle.play.proofs.line_end.Tie as tie
 
 abbrev Inv-loop : tie.InvT-loop
 Inv-loop input from n at₀ at = (from ≤ at) × (at ≤ n)

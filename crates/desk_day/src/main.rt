@@ -1,0 +1,4 @@
+// The script program on the sample day of examples/.
+fn main() {
+    play::desk();
+}
