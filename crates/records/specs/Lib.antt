@@ -1,1 +1,2 @@
 pub mod Saving
+pub mod Into
