@@ -8,6 +8,8 @@ use head::Row;
 use head::Rule;
 use libc::STDOUT_FILENO;
 ghost use mathlib.Core.Path.{_≡_};
+ghost use Prim.Native.Nat.{_≤_};
+ghost use lib.ListN.{length};
 ghost use Rattle.store.specs.State.{fields};
 ghost use Rattle.records_run.specs.Eight.{eight};
 
@@ -160,7 +162,7 @@ fn show(
     io::write_all(STDOUT_FILENO, b"\n");
 }
 
-// One call, with row lists as long as the records, and what it handed out.
+// One call, with the row lists cut to as many rows as there are records, and what it handed out.
 fn turn(
     i: u32,
     head: Head,
@@ -176,7 +178,10 @@ fn turn(
     row_stamps: &mut [u32],
     row_values: &mut [u64],
     row_weights: &mut [u64],
-) -> Head {
+) -> Head
+    requires { ⌜ (8 ≤ length (now «row_codes»)) × (8 ≤ length (now «row_stamps»)) × (8 ≤ length (now «row_values»)) × (8 ≤ length (now «row_weights»)) ⌝ }
+{
+    let k: usize = 8;
     let c = command(i);
     let said = door::call(
         head,
@@ -188,10 +193,10 @@ fn turn(
         prev,
         stack,
         cells,
-        row_codes,
-        row_stamps,
-        row_values,
-        row_weights,
+        &mut row_codes[..k],
+        &mut row_stamps[..k],
+        &mut row_values[..k],
+        &mut row_weights[..k],
         c,
     );
     let answer = said.answer;
@@ -221,7 +226,9 @@ fn run(
     row_stamps: &mut [u32],
     row_values: &mut [u64],
     row_weights: &mut [u64],
-) {
+)
+    requires { ⌜ (8 ≤ length (now «row_codes»)) × (8 ≤ length (now «row_stamps»)) × (8 ≤ length (now «row_values»)) × (8 ≤ length (now «row_weights»)) ⌝ }
+{
     let o = cache::open(
         Head::PLAIN,
         9,
@@ -267,10 +274,10 @@ fn main() {
     let mut prev = [0u32; 16];
     let mut stack = [0u32; 16];
     let mut cells = [0u32; 32];
-    let mut row_codes = [0u64; 8];
-    let mut row_stamps = [0u32; 8];
-    let mut row_values = [0u64; 8];
-    let mut row_weights = [0u64; 8];
+    let mut row_codes = [0u64; 16];
+    let mut row_stamps = [0u32; 16];
+    let mut row_values = [0u64; 16];
+    let mut row_weights = [0u64; 16];
     run(
         &mut codes,
         &mut stamps,
