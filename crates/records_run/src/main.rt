@@ -162,7 +162,46 @@ fn show(
     io::write_all(STDOUT_FILENO, b"\n");
 }
 
-// One call, with the row lists cut to as many rows as there are records, and what it handed out.
+// One call, with row lists as long as the records, and what it handed out.
+fn step(
+    i: u32,
+    head: Head,
+    codes: &mut [u64],
+    stamps: &mut [u32],
+    values: &mut [u64],
+    weights: &mut [u64],
+    next: &mut [u32],
+    prev: &mut [u32],
+    stack: &mut [u32],
+    cells: &mut [u32],
+    row_codes: &mut [u64],
+    row_stamps: &mut [u32],
+    row_values: &mut [u64],
+    row_weights: &mut [u64],
+) -> Head {
+    let c = command(i);
+    let said = door::call(
+        head,
+        codes,
+        stamps,
+        values,
+        weights,
+        next,
+        prev,
+        stack,
+        cells,
+        row_codes,
+        row_stamps,
+        row_values,
+        row_weights,
+        c,
+    );
+    let answer = said.answer;
+    show(i, answer, row_codes, row_stamps, row_values, row_weights);
+    said.head
+}
+
+// The same with longer row lists, cut to as many rows as there are records.
 fn turn(
     i: u32,
     head: Head,
@@ -182,8 +221,8 @@ fn turn(
     requires { ⌜ (8 ≤ length (now «row_codes»)) × (8 ≤ length (now «row_stamps»)) × (8 ≤ length (now «row_values»)) × (8 ≤ length (now «row_weights»)) ⌝ }
 {
     let k: usize = 8;
-    let c = command(i);
-    let said = door::call(
+    step(
+        i,
         head,
         codes,
         stamps,
@@ -197,11 +236,7 @@ fn turn(
         &mut row_stamps[..k],
         &mut row_values[..k],
         &mut row_weights[..k],
-        c,
-    );
-    let answer = said.answer;
-    show(i, answer, row_codes, row_stamps, row_values, row_weights);
-    said.head
+    )
 }
 
 // The head of a cache that was opened; a refused opening would leave a head that every call refuses.

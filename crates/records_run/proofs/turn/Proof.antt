@@ -7,38 +7,32 @@ use borrow.Author.Needs.{needs}
 use Rattle.records_run.proofs.turn.Statement.{statement}
 use Rattle.records_run.proofs.turn.Tie as tie
 
-command-requires : tie.Need-command-requires
-command-requires c κs = tt
+slice-relend-prefix-step : tie.Need-slice-relend-prefix-step
+slice-relend-prefix-step c = search needs
 
-slice-relend-prefix-call : tie.Need-slice-relend-prefix-call
-slice-relend-prefix-call c = search needs
+slice-aggregate-step : tie.Need-slice-aggregate-step
+slice-aggregate-step c = sym (length-take-le 8 (now (c .before .before .before .before .before .before .before .before .before .before .before .before .before .before .before .before .before .before .before .before .before .args .row-codes)) (c .before .before .before .before .before .before .before .before .before .before .before .before .before .before .before .before .before .before .before .before .before .pre .0))
 
-slice-aggregate-call : tie.Need-slice-aggregate-call
-slice-aggregate-call c = sym (length-take-le 8 (now (c .before .before .before .before .before .before .before .before .before .before .before .before .before .before .before .before .before .before .before .before .before .before .args .row-codes)) (c .before .before .before .before .before .before .before .before .before .before .before .before .before .before .before .before .before .before .before .before .before .before .pre .0))
+slice-relend-prefix-step-2 : tie.Need-slice-relend-prefix-step-2
+slice-relend-prefix-step-2 c = search needs
 
-slice-relend-prefix-call-2 : tie.Need-slice-relend-prefix-call-2
-slice-relend-prefix-call-2 c = search needs
+slice-aggregate-step-2 : tie.Need-slice-aggregate-step-2
+slice-aggregate-step-2 c = sym (length-take-le 8 (now (c .before .before .before .before .before .before .before .before .before .before .before .before .before .before .before .before .before .before .before .before .before .before .args .row-stamps)) (c .before .before .before .before .before .before .before .before .before .before .before .before .before .before .before .before .before .before .before .before .before .before .pre .1))
 
-slice-aggregate-call-2 : tie.Need-slice-aggregate-call-2
-slice-aggregate-call-2 c = sym (length-take-le 8 (now (c .before .before .before .before .before .before .before .before .before .before .before .before .before .before .before .before .before .before .before .before .before .before .before .args .row-stamps)) (c .before .before .before .before .before .before .before .before .before .before .before .before .before .before .before .before .before .before .before .before .before .before .before .pre .1))
+slice-relend-prefix-step-3 : tie.Need-slice-relend-prefix-step-3
+slice-relend-prefix-step-3 c = search needs
 
-slice-relend-prefix-call-3 : tie.Need-slice-relend-prefix-call-3
-slice-relend-prefix-call-3 c = search needs
+slice-aggregate-step-3 : tie.Need-slice-aggregate-step-3
+slice-aggregate-step-3 c = sym (length-take-le 8 (now (c .before .before .before .before .before .before .before .before .before .before .before .before .before .before .before .before .before .before .before .before .before .before .before .args .row-values)) (c .before .before .before .before .before .before .before .before .before .before .before .before .before .before .before .before .before .before .before .before .before .before .before .pre .2))
 
-slice-aggregate-call-3 : tie.Need-slice-aggregate-call-3
-slice-aggregate-call-3 c = sym (length-take-le 8 (now (c .before .before .before .before .before .before .before .before .before .before .before .before .before .before .before .before .before .before .before .before .before .before .before .before .args .row-values)) (c .before .before .before .before .before .before .before .before .before .before .before .before .before .before .before .before .before .before .before .before .before .before .before .before .pre .2))
+slice-relend-prefix-step-4 : tie.Need-slice-relend-prefix-step-4
+slice-relend-prefix-step-4 c = search needs
 
-slice-relend-prefix-call-4 : tie.Need-slice-relend-prefix-call-4
-slice-relend-prefix-call-4 c = search needs
+slice-aggregate-step-4 : tie.Need-slice-aggregate-step-4
+slice-aggregate-step-4 c = sym (length-take-le 8 (now (c .before .before .before .before .before .before .before .before .before .before .before .before .before .before .before .before .before .before .before .before .before .before .before .before .args .row-weights)) (c .before .before .before .before .before .before .before .before .before .before .before .before .before .before .before .before .before .before .before .before .before .before .before .before .pre .3))
 
-slice-aggregate-call-4 : tie.Need-slice-aggregate-call-4
-slice-aggregate-call-4 c = sym (length-take-le 8 (now (c .before .before .before .before .before .before .before .before .before .before .before .before .before .before .before .before .before .before .before .before .before .before .before .before .before .args .row-weights)) (c .before .before .before .before .before .before .before .before .before .before .before .before .before .before .before .before .before .before .before .before .before .before .before .before .before .pre .3))
-
-call-requires : tie.Need-call-requires
-call-requires c κs = tt
-
-show-requires : tie.Need-show-requires
-show-requires c κs = tt
+step-requires : tie.Need-step-requires
+step-requires c κs = tt
 
 same-length : tie.Need-same-length
 same-length c = search needs
@@ -83,17 +77,15 @@ pub turn-spec : {M : Type 1} → statement M
 turn-spec =
     tie.close
     (tie.spec
-    command-requires
-    slice-relend-prefix-call
-    slice-aggregate-call
-    slice-relend-prefix-call-2
-    slice-aggregate-call-2
-    slice-relend-prefix-call-3
-    slice-aggregate-call-3
-    slice-relend-prefix-call-4
-    slice-aggregate-call-4
-    call-requires
-    show-requires
+    slice-relend-prefix-step
+    slice-aggregate-step
+    slice-relend-prefix-step-2
+    slice-aggregate-step-2
+    slice-relend-prefix-step-3
+    slice-aggregate-step-3
+    slice-relend-prefix-step-4
+    slice-aggregate-step-4
+    step-requires
     same-length
     same-length-2
     same-length-3
