@@ -4,6 +4,7 @@
 //!     oracle record DIR            write the recorded list into DIR, print the counts
 //!     oracle stress CALLS SEED     compare random calls with a model of document 01
 //!     oracle ask                   run the script on standard input, print the recorded form
+//!     oracle beside CALLS SEED     run the port beside the crate (built with `--cfg beside`, see `run`)
 
 use clru::{CLruCache, CLruCacheConfig, WeightScale, ZeroWeightScale};
 use std::borrow::Borrow;
@@ -17,6 +18,9 @@ use std::panic::{self, AssertUnwindSafe};
 use std::path::Path;
 use std::process::ExitCode;
 use std::str::FromStr;
+
+#[cfg(beside)]
+mod beside;
 
 const _: () = assert!(usize::BITS == 64, "weights and capacities have 64 bits");
 
@@ -3036,6 +3040,10 @@ fn main() -> ExitCode {
             number(calls).and_then(|calls| number(seed).and_then(|seed| stress(calls, seed)))
         }
         ["ask"] => ask(),
+        #[cfg(beside)]
+        ["beside", calls, seed] => {
+            number(calls).and_then(|calls| number(seed).and_then(|seed| beside::run(calls, seed)))
+        }
         _ => Err("usage: oracle record DIR | stress CALLS SEED | ask".into()),
     };
     match outcome {
