@@ -278,10 +278,6 @@ struct Counts {
 }
 
 impl Counts {
-    fn calls(&self) -> u64 {
-        self.crate_agreed + self.paper_agreed + self.refused.values().sum::<u64>()
-    }
-
     fn say(&self, what: &str) -> String {
         format!(
             "{what}: {} runs, {} calls agreed with the crate; {} more on caches that its {} panics spent agreed with \
@@ -404,7 +400,7 @@ fn at_boundary(random: &mut Random, generator: &mut Generator, codes: Codes) {
 fn beside_the_crate(calls: u64, seed: u64) -> Result<String, String> {
     let mut random = Random(seed);
     let mut counts = Counts::default();
-    while counts.calls() < calls {
+    while counts.crate_agreed < calls {
         let kind = random.pick(&KINDS);
         let codes = random.pick(&CODE_CHOICES);
         let mut generator = random_generator(random.next(), kind, codes);
@@ -464,13 +460,15 @@ fn large_caches(seed: u64) -> Result<String, String> {
                 let mut trio = Trio::open(opening)?;
                 counts.runs += 1;
                 // Filled without reading the crate's state each time, which takes long at this size.
-                for code in 1..=room + room / 8 {
+                for code in 1..=room + room / 2 {
                     let weight = if kind == Kind::Plain {
                         0
                     } else {
                         random.below(3)
                     };
-                    let (code, stamp) = (random.between(1, code), random.below(9) as u32);
+                    let again = random.one_in(4);
+                    let code = if again { random.between(1, code) } else { code };
+                    let stamp = random.below(9) as u32;
                     let value = random.below(100);
                     let row = Row {
                         code,

@@ -1,1 +1,2 @@
 pub mod Exchanged
+pub mod Refused
