@@ -1,4 +1,4 @@
--- `exports::weavestall_read` meets its contract.
+-- `exports::weavestall_read` meets its contract: `door::tell` between the lists read and the lists written.
 -- Assumes nothing.
 use lib.ListN.{length}
 use Rattle.store.specs.State.{fields}
@@ -7,6 +7,21 @@ use Rattle.layout.specs.Commands.{readerIn}
 use Rattle.exports.proofs.Exchanged.{reading}
 use Rattle.exports.proofs.weavestall_read.Statement.{statement}
 use Rattle.exports.proofs.weavestall_read.Tie as tie
+
+abbrev at-put-answer : tie.After-slice-known10 → tie.After-put-answer
+at-put-answer c = c .before .before
+
+abbrev at-tell : tie.After-put-answer → tie.After-tell
+at-tell c = c .before .before .before .before .before .before .before .before .before .before
+
+abbrev at-reader-at : tie.After-tell → tie.After-reader-at
+at-reader-at c = c .before .before .before .before .before
+
+abbrev at-head-at : tie.After-reader-at → tie.After-head-at
+at-head-at c = c .before
+
+abbrev at-start : tie.After-head-at → tie.Start
+at-start c = c .before .before .before .before .before .before .before .before .before .before .before .before .before .before .before .before
 
 head-at-requires : tie.Need-head-at-requires
 head-at-requires c κs = tt
@@ -21,22 +36,53 @@ put-answer-requires : tie.Need-put-answer-requires
 put-answer-requires c κs = tt
 
 same-length : tie.Need-same-length
-same-length c = c .before .before .before .before .before .before .before .before .before .before .before .before .tell .kept .1 .1 .1 .1 .1 .1 .1 .1 .1 .0
+same-length c = at-tell (at-put-answer c) .tell .kept .1 .1 .1 .1 .1 .1 .1 .1 .1 .0
 
 same-length-2 : tie.Need-same-length-2
-same-length-2 c = c .before .before .before .before .before .before .before .before .before .before .before .before .tell .kept .1 .1 .1 .1 .1 .1 .1 .1 .1 .1 .0
+same-length-2 c = at-tell (at-put-answer c) .tell .kept .1 .1 .1 .1 .1 .1 .1 .1 .1 .1 .0
 
 same-length-3 : tie.Need-same-length-3
-same-length-3 c = c .before .before .before .before .before .before .before .before .before .before .before .before .tell .kept .1 .1 .1 .1 .1 .1 .1 .1 .1 .1 .1 .0
+same-length-3 c = at-tell (at-put-answer c) .tell .kept .1 .1 .1 .1 .1 .1 .1 .1 .1 .1 .1 .0
 
 same-length-4 : tie.Need-same-length-4
-same-length-4 c = c .before .before .before .before .before .before .before .before .before .before .before .before .tell .kept .1 .1 .1 .1 .1 .1 .1 .1 .1 .1 .1 .1 .0
+same-length-4 c = at-tell (at-put-answer c) .tell .kept .1 .1 .1 .1 .1 .1 .1 .1 .1 .1 .1 .1 .0
 
 same-length-5 : tie.Need-same-length-5
-same-length-5 c = c .before .before .put-answer .kept .0
+same-length-5 c = at-put-answer c .put-answer .kept .0
 
 returns : tie.Need-returns
-returns c = reading (readerIn (c .before .before .before .before .before .before .before .before .before .before .before .before .before .before .before .before .before .before .before .before .before .before .before .before .before .before .before .before .before .before .before .before .before .before .args .command .now)) (c .before .before .before .before .before .before .before .before .before .before .before .before .before .before .before .before .before .reader-at .result) (headOf (c .before .before .before .before .before .before .before .before .before .before .before .before .before .before .before .before .before .before .before .before .before .before .before .before .before .before .before .before .before .before .before .before .before .before .args .head .now) (length (c .before .before .before .before .before .before .before .before .before .before .before .before .before .before .before .before .before .before .before .before .before .before .before .before .before .before .before .before .before .before .before .before .before .before .args .answer .now))) (c .before .before .before .before .before .before .before .before .before .before .before .before .before .before .before .before .before .before .head-at .result) (c .before .before .before .before .before .before .before .before .before .before .before .before .before .before .before .before .before .before .before .before .before .before .before .before .before .before .before .before .before .before .before .before .before .before .args .codes .now) (c .before .before .before .before .before .before .before .before .before .before .before .before .before .before .before .before .before .before .before .before .before .before .before .before .before .before .before .before .before .before .before .before .before .before .args .stamps .now) (c .before .before .before .before .before .before .before .before .before .before .before .before .before .before .before .before .before .before .before .before .before .before .before .before .before .before .before .before .before .before .before .before .before .before .args .values .now) (c .before .before .before .before .before .before .before .before .before .before .before .before .before .before .before .before .before .before .before .before .before .before .before .before .before .before .before .before .before .before .before .before .before .before .args .weights .now) (c .before .before .before .before .before .before .before .before .before .before .before .before .before .before .before .before .before .before .before .before .before .before .before .before .before .before .before .before .before .before .before .before .before .before .args .next .now) (c .before .before .before .before .before .before .before .before .before .before .before .before .before .before .before .before .before .before .before .before .before .before .before .before .before .before .before .before .before .before .before .before .before .before .args .prev .now) (c .before .before .before .before .before .before .before .before .before .before .before .before .before .before .before .before .before .before .before .before .before .before .before .before .before .before .before .before .before .before .before .before .before .before .args .stack .now) (c .before .before .before .before .before .before .before .before .before .before .before .before .before .before .before .before .before .before .before .before .before .before .before .before .before .before .before .before .before .before .before .before .before .before .args .cells .now) (fields (c .before .before .before .before .before .before .before .before .before .before .before .before .before .before .before .before .before .before .before .before .before .before .before .before .before .before .before .before .before .before .before .before .before .before .args .row-codes .now) (c .before .before .before .before .before .before .before .before .before .before .before .before .before .before .before .before .before .before .before .before .before .before .before .before .before .before .before .before .before .before .before .before .before .before .args .row-stamps .now) (c .before .before .before .before .before .before .before .before .before .before .before .before .before .before .before .before .before .before .before .before .before .before .before .before .before .before .before .before .before .before .before .before .before .before .args .row-values .now) (c .before .before .before .before .before .before .before .before .before .before .before .before .before .before .before .before .before .before .before .before .before .before .before .before .before .before .before .before .before .before .before .before .before .before .args .row-weights .now)) (fields (c .before .before .before .before .before .before .before .before .before .before .before .before .tell .last .1 .1 .1 .1 .1 .1 .1 .1 .1 .0) (c .before .before .before .before .before .before .before .before .before .before .before .before .tell .last .1 .1 .1 .1 .1 .1 .1 .1 .1 .1 .0) (c .before .before .before .before .before .before .before .before .before .before .before .before .tell .last .1 .1 .1 .1 .1 .1 .1 .1 .1 .1 .1 .0) (c .before .before .before .before .before .before .before .before .before .before .before .before .tell .last .1 .1 .1 .1 .1 .1 .1 .1 .1 .1 .1 .1 .0)) (c .before .before .before .before .before .before .before .before .before .before .before .before .before .before .before .before .before .before .before .before .before .before .before .before .before .before .before .before .before .before .before .before .before .before .args .answer .now) (c .before .before .put-answer .last .0) (c .before .before .before .before .before .before .before .before .before .before .before .before .tell .result) (c .before .before .before .before .before .before .before .before .before .before .before .before .before .before .before .before .before .before .head-at .ensures) (c .before .before .before .before .before .before .before .before .before .before .before .before .before .before .before .before .before .reader-at .ensures) (c .before .before .before .before .before .before .before .before .before .before .before .before .tell .ensures) (c .before .before .put-answer .ensures)
+returns c =
+    let at-a = at-put-answer c in
+    let at-t = at-tell at-a in
+    let at-k = at-reader-at at-t in
+    let at-h = at-head-at at-k in
+    let a = at-a .put-answer in
+    let t = at-t .tell in
+    let k = at-k .reader-at in
+    let h = at-h .head-at in
+    let s = at-start at-h .args in
+    reading
+    (readerIn (s .command .now))
+    (k .result)
+    (headOf (s .head .now) (length (s .answer .now)))
+    (h .result)
+    (s .codes .now)
+    (s .stamps .now)
+    (s .values .now)
+    (s .weights .now)
+    (s .next .now)
+    (s .prev .now)
+    (s .stack .now)
+    (s .cells .now)
+    (fields (s .row-codes .now) (s .row-stamps .now) (s .row-values .now) (s .row-weights .now))
+    (fields (t .last .1 .1 .1 .1 .1 .1 .1 .1 .1 .0) (t .last .1 .1 .1 .1 .1 .1 .1 .1 .1 .1 .0) (t .last .1 .1 .1 .1 .1 .1 .1 .1 .1 .1 .1 .0) (t .last .1 .1 .1 .1 .1 .1 .1 .1 .1 .1 .1 .1 .0))
+    (s .answer .now)
+    (a .last .0)
+    (t .result)
+    (h .ensures)
+    (k .ensures)
+    (t .ensures)
+    (a .ensures)
 
 pub weavestall-read-spec : {M : Type 1} → statement M
 weavestall-read-spec =
