@@ -221,18 +221,17 @@ fn parts(n: u64) {
     let count = (2_000_000 / n).clamp(1_000, 50_000) as usize;
     let mut cache = ClaimsCache::plain(n, n as u32).expect("it opens");
     let mut random = Random(n);
+    for code in 0..n {
+        let put = cache.put(code, 0, 0).expect("it is taken");
+        assert!(put.evicted().is_empty());
+    }
+    // The recency list in random order, so that the inspection's walk jumps about in memory.
     let mut order: Vec<u64> = (0..n).collect();
     for at in (1..order.len()).rev() {
         order.swap(at, (random.next() % (at as u64 + 1)) as usize);
     }
-    for code in &order {
-        assert!(
-            cache
-                .put(*code, 0, 0)
-                .expect("it is taken")
-                .evicted()
-                .is_empty()
-        );
+    for code in order {
+        black_box(cache.get(code));
     }
     let present = |at: u64| at.wrapping_mul(0x9E37_79B1) % n;
     let len = per_call(&mut cache, count, |cache, _| {
