@@ -33,6 +33,8 @@
 //! # }
 //! ```
 
+#![deny(missing_docs)]
+
 pub mod lists;
 
 use lists::{ANSWER, COMMAND, Lists, RowLists};
@@ -57,9 +59,13 @@ pub enum Kind {
 /// An entry, as it is stored and as it is handed out.
 #[derive(Clone, Copy, Debug, Default, PartialEq, Eq, Hash)]
 pub struct Row {
+    /// What keys are compared by.
     pub code: u64,
+    /// Rides along with the code.
     pub stamp: u32,
+    /// What is stored.
     pub value: u64,
+    /// 0 on a plain cache.
     pub weight: u64,
 }
 
@@ -188,9 +194,17 @@ impl IntoIterator for Evicted {
 #[derive(Clone, Debug, PartialEq, Eq)]
 pub enum Put {
     /// The code was absent and is now in front.
-    New { evicted: Evicted },
+    New {
+        /// What left to make room, oldest first.
+        evicted: Evicted,
+    },
     /// The code was present; its value was this.
-    Was { value: u64, evicted: Evicted },
+    Was {
+        /// The value that was replaced.
+        value: u64,
+        /// What left to make room, oldest first.
+        evicted: Evicted,
+    },
 }
 
 impl Put {
@@ -221,8 +235,11 @@ impl Put {
 #[must_use = "it holds the rows that left the cache"]
 #[derive(Clone, Debug, PartialEq, Eq)]
 pub struct Now {
+    /// The value held now.
     pub value: u64,
+    /// Whether the code was absent.
     pub new: bool,
+    /// What left to make room, oldest first.
     pub evicted: Evicted,
 }
 
@@ -242,6 +259,7 @@ pub enum Test {
 /// A test, or its opposite.
 #[derive(Clone, Copy, Debug, PartialEq, Eq, Hash)]
 pub struct Rule {
+    /// What is tested.
     pub test: Test,
     /// Keep what fails the test instead.
     pub not: bool,
@@ -691,7 +709,7 @@ impl Debug for ClaimsCache {
     }
 }
 
-impl<'a> IntoIterator for &'a ClaimsCache {
+impl IntoIterator for &ClaimsCache {
     type Item = Row;
     type IntoIter = std::vec::IntoIter<Row>;
 

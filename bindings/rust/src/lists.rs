@@ -111,22 +111,34 @@ mod raw {
 pub struct Lists {
     /// Kind, capacity, slots, live, weight, front, back, top, depth.
     pub head: Vec<u64>,
+    /// The code in each slot.
     pub codes: Vec<u64>,
+    /// The stamp in each slot.
     pub stamps: Vec<u32>,
+    /// The value in each slot.
     pub values: Vec<u64>,
+    /// The weight in each slot.
     pub weights: Vec<u64>,
+    /// The slot behind each in the recency list.
     pub next: Vec<u32>,
+    /// The slot before each in the recency list; for an unused slot its place on the stack.
     pub prev: Vec<u32>,
+    /// The slots that wait to be used again.
     pub stack: Vec<u32>,
+    /// The lookup table: slot numbers by the hash of their codes.
     pub cells: Vec<u32>,
 }
 
 /// Lists for rows that are handed out, one a field: as many rows as the shortest holds.
 #[derive(Clone, Debug, Default, PartialEq, Eq)]
 pub struct RowLists {
+    /// The codes of the rows.
     pub codes: Vec<u64>,
+    /// The stamps of the rows.
     pub stamps: Vec<u32>,
+    /// The values of the rows.
     pub values: Vec<u64>,
+    /// The weights of the rows.
     pub weights: Vec<u64>,
 }
 
