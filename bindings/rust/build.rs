@@ -8,6 +8,11 @@ use std::process::Command;
 
 fn main() {
     println!("cargo:rerun-if-env-changed=WEAVESTALL_LIB");
+    let processor = std::env::var("CARGO_CFG_TARGET_ARCH").expect("cargo sets it");
+    assert!(
+        processor == "x86_64",
+        "rt writes libexports.a for x86-64, and this build is for {processor}: build for x86_64-unknown-linux-gnu"
+    );
     let here = PathBuf::from(std::env::var("CARGO_MANIFEST_DIR").expect("cargo sets it"));
     let folder = match std::env::var_os("WEAVESTALL_LIB") {
         Some(folder) => PathBuf::from(folder),
