@@ -5,60 +5,14 @@ use head::Answer;
 use head::Code;
 use head::Command;
 use head::Head;
-use head::Refusal;
 use head::Rule;
+use opening::Opened;
 ghost use Rattle.head.specs.declared.Command.the-variants.{Back, BackMut, Capacity, Clear, Contains, Front, FrontMut, Get, GetMut, IsEmpty, IsFull, Len, ListBack, List as ListFront, Peek, PeekMut, Pop, PopBack, PopFront, Put, PutOrModify, PutWithWeight, Resize, Retain, TryPutOrModify, Weight};
-ghost use mathlib.Core.Path.{_≡_};
 ghost use Rattle.head.specs.Fresh.{freshHead};
 ghost use Rattle.store.specs.State.{fields};
 ghost use Rattle.plan.specs.States.{state};
-ghost use Rattle.cache.specs.Begun.{longEnough, Opens};
+ghost use Rattle.opening.specs.Begun.{Opens};
 ghost use Rattle.door.specs.Served.{Calls, Reads, Serves, Tells};
-
-// What opening gives: the head of a cache that holds nothing, or the refusal.
-pub enum Opened {
-    Cache(Head),
-    No(Refusal),
-}
-
-// Whether lists of these lengths have room for n slots.
-fn long_enough(
-    n: u32,
-    codes: usize,
-    stamps: usize,
-    values: usize,
-    weights: usize,
-    next: usize,
-    prev: usize,
-    stack: usize,
-    cells: usize,
-) -> bool
-    ensures { λ r. ⌜ r ≡ longEnough n codes stamps values weights next prev stack cells ⌝ }
-{
-    let m = n as usize;
-    if codes < m {
-        return false;
-    }
-    if stamps < m {
-        return false;
-    }
-    if values < m {
-        return false;
-    }
-    if weights < m {
-        return false;
-    }
-    if next < m {
-        return false;
-    }
-    if prev < m {
-        return false;
-    }
-    if stack < m {
-        return false;
-    }
-    2 * m <= cells
-}
 
 // Opens a cache in lists that may hold anything: what N slots need is made empty.
 pub fn open(
@@ -76,25 +30,10 @@ pub fn open(
 ) -> Opened
     ensures { λ r. ⌜ Opens kind capacity slots (state (freshHead kind capacity slots) (now (codes .entry)) (now (stamps .entry)) (now (values .entry)) (now (weights .entry)) (now (next .entry)) (now (prev .entry)) (now (stack .entry)) (now (cells .entry))) (state (freshHead kind capacity slots) (now (codes .exit)) (now (stamps .exit)) (now (values .exit)) (now (weights .exit)) (now (next .exit)) (now (prev .exit)) (now (stack .exit)) (now (cells .exit))) r ⌝ }
 {
-    if !Head::allows(kind, capacity, slots) {
-        return Opened::No(Refusal::NotOpened);
-    }
-    if !long_enough(
+    opening::open(
+        kind,
+        capacity,
         slots,
-        codes.len(),
-        stamps.len(),
-        values.len(),
-        weights.len(),
-        next.len(),
-        prev.len(),
-        stack.len(),
-        cells.len(),
-    ) {
-        return Opened::No(Refusal::NotOpened);
-    }
-    let fresh = Head::fresh(kind, capacity, slots);
-    let head = store::empty(
-        fresh,
         codes,
         stamps,
         values,
@@ -103,8 +42,7 @@ pub fn open(
         prev,
         stack,
         cells,
-    );
-    Opened::Cache(head)
+    )
 }
 
 // How many entries there are: `Count`.

@@ -1,10 +1,10 @@
 // Makes the call of crate `cache` that a command names, so that a list of commands drives every public call.
-use cache::Opened;
 use door::Said;
 use head::Answer;
 use head::Command;
 use head::Head;
 use head::Refusal;
+use opening::Opened;
 
 // Which of the steps below a command is for.
 const READS: u32 = 0;

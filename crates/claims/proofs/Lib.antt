@@ -1,7 +1,6 @@
 pub mod Decided
 pub mod Same
 pub mod Public
-pub mod Telling
 pub mod Counted
 pub mod Untouched
 pub mod Sampled

@@ -12,8 +12,8 @@ use Rattle.head.specs.Fields.{Fields}
 use Rattle.head.specs.Fresh.{freshHead}
 use Rattle.plan.specs.States.{State, state}
 use Rattle.door.specs.Served.{Serves, Calls, Tells, Reads}
-use Rattle.cache.specs.declared.Opened.{Opened}
-use Rattle.cache.specs.Begun.{Opens}
+use Rattle.opening.specs.declared.Opened.{Opened}
+use Rattle.opening.specs.Begun.{Opens}
 use Rattle.claims.specs.Agreed.{Agree}
 use Rattle.claims.proofs.Same.{one-serve, one-call, one-tell, one-read, one-open}
 

@@ -16,8 +16,8 @@ use Rattle.store.proofs.Settled.{one-cache}
 use Rattle.rows.specs.Written.{column}
 use Rattle.plan.specs.States.{State, Means}
 use Rattle.door.specs.Served.{Serves, Calls, Tells, Reads, shortest}
-use Rattle.claims.specs.declared.Numbers.{Numbers}
-use Rattle.claims.specs.Numbered.{numbersOf}
+use Rattle.layout.specs.declared.Numbers.{Numbers}
+use Rattle.layout.specs.Numbered.{numbersOf}
 use Rattle.claims.specs.Samples.{Shows}
 
 -- ---- numbers that differ

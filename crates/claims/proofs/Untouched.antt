@@ -25,26 +25,13 @@ use Rattle.model.specs.Perform.{Cache, verdict, handed, perform}
 use Rattle.model.proofs.Verdicts.{on-test, on-found, on-plain, on-lent}
 use Rattle.rows.specs.Written.{Written}
 use Rattle.store.specs.Caches.{after}
-use Rattle.plan.specs.States.{State, Means, TailsKept}
+use Rattle.plan.specs.States.{State, Means}
 use Rattle.plan.specs.Plans.{cellsStay}
+use Rattle.plan.proofs.Likeness.{past-self, alike-left}
 use Rattle.door.specs.Served.{Serves, Calls, Tells, shortest}
 use Rattle.claims.proofs.Decided.{sound?}
-use Rattle.claims.proofs.Same.{one-left}
 
 -- ---- a call whose move is to stay
-
--- a state has its own tails
-tails-self : (s : State) → TailsKept s s
-tails-self s = record {
-  codes = record { size = refl; tail = refl };
-  stamps = record { size = refl; tail = refl };
-  values = record { size = refl; tail = refl };
-  weights = record { size = refl; tail = refl };
-  nexts = record { size = refl; tail = refl };
-  prevs = record { size = refl; tail = refl };
-  stacks = record { size = refl; tail = refl };
-  table = record { size = refl; tail = refl };
-}
 
 -- staying leaves the cache
 left-stays : (m : Command) (lent : ℕ) (c : Cache) → handed lent (verdict m (c .desk)) .move ≡ stay → perform m lent c .left ≡ c
@@ -56,7 +43,7 @@ pub untouched : {m : Command} {lent : ℕ} {s t : State} {a : Answer} {c : Cache
     → handed lent (verdict m (c .desk)) .move ≡ stay → t ≡ s
 untouched {m} {lent} {s} {t} {c = c} x d e =
     let f = x .sound c d in
-    let g = one-left s (subst (λ (y : Cache). Means t y) (left-stays m lent c e) (f .left)) d (d .room) (f .tails) (tails-self s) in
+    let g = alike-left s d (subst (λ (y : Cache). Means t y) (left-stays m lent c e) (f .left)) (d .room) (past-self (s .head .slots) s) (f .tails) in
     let cells : t .cells ≡ s .cells = f .cells (ap cellsStay e) in
     λ i. record { head = g .head i; fields = g .fields i; nexts = g .nexts i; prevs = g .prevs i; stack = g .stack i; cells = cells i }
 

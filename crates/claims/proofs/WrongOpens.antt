@@ -18,9 +18,9 @@ use Rattle.model.specs.Perform.{Cache, opening, verdict, perform}
 use Rattle.store.proofs.Settled.{one-cache}
 use Rattle.plan.specs.States.{State, Means, Sound}
 use Rattle.door.specs.Served.{Calls}
-use Rattle.cache.specs.declared.Opened.{Opened}
-use Rattle.cache.specs.declared.Opened.the-variants.{Cache as Began, No}
-use Rattle.cache.specs.Begun.{spacious, Opens}
+use Rattle.opening.specs.declared.Opened.{Opened}
+use Rattle.opening.specs.declared.Opened.the-variants.{Cache as Began, No}
+use Rattle.opening.specs.Begun.{spacious, Opens}
 use Rattle.claims.specs.Samples.{Shows, code, row10, roomy, bare, lists}
 use Rattle.claims.proofs.Ruled.{answer-not, call-says}
 

@@ -1,3 +1,2 @@
 pub mod Agreed
-pub mod Numbered
 pub mod Samples

@@ -150,7 +150,7 @@ fn show(codes: &[u64], stamps: &[u32], values: &[u64], weights: &[u64], slot: Sl
     if slot.0 == Head::NONE {
         return Decision::say(Answer::Absent);
     }
-    let row = rows::row_at(codes, stamps, values, weights, slot);
+    let row = store::row_at(codes, stamps, values, weights, slot);
     Decision::say(Answer::Entry(row))
 }
 
@@ -162,7 +162,7 @@ fn pop_end(codes: &[u64], stamps: &[u32], values: &[u64], weights: &[u64], slot:
     if slot.0 == Head::NONE {
         return Decision::say(Answer::Absent);
     }
-    let row = rows::row_at(codes, stamps, values, weights, slot);
+    let row = store::row_at(codes, stamps, values, weights, slot);
     Decision {
         answer: Answer::Entry(row),
         plan: Plan::Drop(slot),

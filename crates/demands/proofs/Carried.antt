@@ -5,6 +5,7 @@ use mathlib.Core.Bool.{Bool, true, cond, _||_}
 use mathlib.Core.List.{List, [], _∷_}
 use mathlib.Core.Path.{_≡_, refl, sym, ap, _∙_, subst}
 use native.Mathlib.Omega.{arith}
+use Rattle.head.specs.Answers.{rowCount}
 use Rattle.head.specs.Bounds.{plainKind}
 use Rattle.head.specs.declared.Command.{Command}
 use Rattle.head.specs.declared.Command.the-variants.{Len, Capacity, Weight, IsEmpty, IsFull, Front, Back, Peek, Contains, List as ListFront, ListBack, Get, Pop, PopFront, PopBack, Put, PutWithWeight, Clear, Retain, Resize, PutOrModify, TryPutOrModify, GetMut, PeekMut, FrontMut, BackMut}
@@ -15,17 +16,18 @@ use Rattle.model.specs.Perform.{Cache, Outcome, fresh, perform}
 use Rattle.model.specs.Runs as model
 use Rattle.model.specs.Runs.{Call, Sort, plainPut, otherPut, getting, looking, popCode, popEnd, trimming, clearing, another, new, value, sortOf, wordOf, isNew, isValue, Request}
 use Rattle.model.proofs.Cases.{split}
+use Rattle.model.proofs.Handing.{rows-counted}
 use Rattle.model.proofs.Tally.{tally}
 use Rattle.model.proofs.Plain.{Plain, codes, request-asked, put-word, fresh-plain}
 use Rattle.model.proofs.Rival.{rival}
 use Rattle.plan.specs.States.{State, Means}
 use Rattle.demands.specs.Runs.{Asked, Made, lent, ending}
-use Rattle.demands.specs.Views.{codesIn, rowsSaid, rowCodes}
+use Rattle.demands.specs.Views.{codesIn, rowCodes}
 use Rattle.demands.specs.Counts.{leaving, accepted, departed, Requests, newAnswers, Keeps}
 use Rattle.demands.specs.Demands.{outcome, AsDefined, Tallied, Beside, Taken, AllTaken, NoneRefused}
 use Rattle.demands.proofs.Steps.{order-shown}
 use Rattle.demands.proofs.Openings.{day-fresh, read-off}
-use Rattle.demands.proofs.Rows.{said-rows, written-codes}
+use Rattle.demands.proofs.Rows.{written-codes}
 
 -- the calls of a run, as the definitions take them
 abbrev callOf : Asked → Call
@@ -135,9 +137,9 @@ departed-same s c [] m d = refl
 departed-same s c (a ∷ as′) m d =
     let t = d .0 in
     let o = outcome (a .asked) c in
-    let n = ap rowsSaid (t .answer) ∙ said-rows (a .asked .command) (lent (a .asked)) c (m .lawful .capacity .0) in
+    let n = ap rowCount (t .answer) ∙ rows-counted (a .asked .command) (lent (a .asked)) c (m .lawful .capacity .0) in
     let here = leaving-same (sortOf (a .asked .command)) (codesIn s) (rowCodes a) (a .answer) c o (ap codesOf (order-shown m))
-    (written-codes (rowsSaid (a .answer)) (o .rows) (a .asked .rows) (a .rows) n (t .rows)) (t .answer) in
+    (written-codes (rowCount (a .answer)) (o .rows) (a .asked .rows) (a .rows) n (t .rows)) (t .answer) in
     rw (here, departed-same (a .left) (o .left) as′ (t .means) (d .1))
 
 ending-means : (s : State) (c : Cache) (as′ : List Made) → Means s c → AsDefined s c as′ → Means (ending s as′) (model.after c (callsOf as′))

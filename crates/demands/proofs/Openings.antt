@@ -10,9 +10,9 @@ use Rattle.model.specs.Desk.{kindOf}
 use Rattle.model.specs.Perform.{fresh, opening}
 use Rattle.model.proofs.Cases.{split, both}
 use Rattle.plan.specs.States.{State, Means, TailsKept}
-use Rattle.cache.specs.declared.Opened.{Opened}
-use Rattle.cache.specs.declared.Opened.the-variants.{Cache as Began}
-use Rattle.cache.specs.Begun.{spacious, Opens}
+use Rattle.opening.specs.declared.Opened.{Opened}
+use Rattle.opening.specs.declared.Opened.the-variants.{Cache as Began}
+use Rattle.opening.specs.Begun.{spacious, Opens}
 use Rattle.demands.specs.Runs.{Day}
 use Rattle.demands.specs.Demands.{ReadOff}
 use Rattle.demands.proofs.Steps.{as-defined}

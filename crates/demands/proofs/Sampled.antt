@@ -28,8 +28,8 @@ use Rattle.store.specs.Acts.{Tails}
 use Rattle.rows.specs.Written.{Written}
 use Rattle.plan.specs.States.{Means}
 use Rattle.door.specs.Served.{Reads, Serves, Calls}
-use Rattle.cache.specs.declared.Opened.the-variants.{Cache as Began}
-use Rattle.cache.specs.Begun.{Opens}
+use Rattle.opening.specs.declared.Opened.the-variants.{Cache as Began}
+use Rattle.opening.specs.Begun.{Opens}
 use Rattle.demands.specs.Runs.{Run, Day}
 use Rattle.demands.specs.Counts.{Requests, newAnswers, Keeps}
 use Rattle.demands.specs.Samples.{two, four, lists₀, state₀, state₁, state₂, state₃, state₄, state₅, row, code, calls₈, holdings}

@@ -5,13 +5,12 @@ use mathlib.Core.Bool.{true, _||_}
 use mathlib.Core.List.{List, [], _∷_, _++_}
 use mathlib.Core.Path.{_≡_}
 use Rattle.head.specs.Bounds.{plainKind}
-use Rattle.head.specs.Tails.{Tail}
 use Rattle.model.specs.Codes.{Rearranged}
 use Rattle.model.specs.Desk.{kindOf, weighs}
 use Rattle.model.specs.Perform.{Cache, Outcome, fresh, perform}
 use Rattle.model.specs.Runs.{Sort, plainPut, otherPut, getting, looking, popCode, popEnd, trimming, clearing, another, sortOf, Word, wordOf, isNew, isValue, brought}
 use Rattle.rows.specs.Written.{Written}
-use Rattle.plan.specs.States.{State, Means, TailsKept}
+use Rattle.plan.specs.States.{State, Means, TailsKept, Alike}
 use Rattle.demands.specs.Runs.{Asked, Made, lent, ending, asks, Day}
 use Rattle.demands.specs.Views.{slotsIn, entriesIn, stackIn, codesIn}
 use Rattle.demands.specs.Counts.{accepted, departed, Requests, newAnswers, Keeps}
@@ -42,25 +41,16 @@ AsDefined s c (a ∷ as′) = Told s a c × AsDefined (a .left) (outcome (a .ask
 abbrev pub ReadOff : Type 0
 ReadOff = (kind c n : ℕ) (d : Day kind c n) → AsDefined (d .begun) (fresh (kindOf kind) c n) (d .calls)
 
--- two states are the same, the table's cells excepted
-pub record Same (s t : State) : Type 0 where
-  pub head : t .head ≡ s .head
-  pub fields : t .fields ≡ s .fields
-  pub nexts : t .nexts ≡ s .nexts
-  pub prevs : t .prevs ≡ s .prevs
-  pub stack : t .stack ≡ s .stack
-  pub cells : Tail (2 * s .head .slots) (s .cells) (t .cells)
-
--- two runs gave the same answers, rows and states, call by call
-abbrev pub Agree : List Made → List Made → Type 0
-Agree [] [] = Unit {0}
-Agree [] (b ∷ bs) = ⊥
-Agree (a ∷ as′) [] = ⊥
-Agree (a ∷ as′) (b ∷ bs) = (b .answer ≡ a .answer) × (b .rows ≡ a .rows) × Same (a .left) (b .left) × Agree as′ bs
+-- two runs gave the same answers, rows and states, cells excepted, call by call
+abbrev pub AllAlike : List Made → List Made → Type 0
+AllAlike [] [] = Unit {0}
+AllAlike [] (b ∷ bs) = ⊥
+AllAlike (a ∷ as′) [] = ⊥
+AllAlike (a ∷ as′) (b ∷ bs) = (b .answer ≡ a .answer) × (b .rows ≡ a .rows) × Alike (a .left) (b .left) × AllAlike as′ bs
 
 -- two runs that open the same lists with the same numbers and ask the same calls give the same
 abbrev pub Settled : Type 0
-Settled = (kind c n : ℕ) (d e : Day kind c n) → e .lists ≡ d .lists → asks (e .calls) ≡ asks (d .calls) → Same (d .begun) (e .begun) × Agree (d .calls) (e .calls)
+Settled = (kind c n : ℕ) (d e : Day kind c n) → e .lists ≡ d .lists → asks (e .calls) ≡ asks (d .calls) → Alike (d .begun) (e .begun) × AllAlike (d .calls) (e .calls)
 
 -- ---- demand 3
 

@@ -10,9 +10,9 @@ use Rattle.head.specs.Fields.{Fields}
 use Rattle.head.specs.Fresh.{freshHead}
 use Rattle.plan.specs.States.{State}
 use Rattle.door.specs.Served.{Reads, Tells, Serves, Calls, shortest}
-use Rattle.cache.specs.declared.Opened.{Opened}
-use Rattle.cache.specs.declared.Opened.the-variants.{Cache as Began}
-use Rattle.cache.specs.Begun.{Opens}
+use Rattle.opening.specs.declared.Opened.{Opened}
+use Rattle.opening.specs.declared.Opened.the-variants.{Cache as Began}
+use Rattle.opening.specs.Begun.{Opens}
 
 -- the contracts of the public calls have four forms: what reads, what lists rows, what acts without rows, what acts and hands out rows
 pub data Form : Type 0 where

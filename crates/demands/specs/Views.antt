@@ -4,8 +4,7 @@ use Prim.Native.Nat.{ℕ}
 use mathlib.Core.List.{List}
 use lib.ListN.{take}
 use Rattle.head.specs.declared.Row.{Row}
-use Rattle.head.specs.declared.Answer.{Answer}
-use Rattle.head.specs.declared.Answer.the-variants.{No, New, Was, Is, Now, Absent, Entry, Done, Count, Flag}
+use Rattle.head.specs.Answers.{rowCount}
 use Rattle.model.specs.Codes.{codesOf}
 use Rattle.table.specs.Links.{walk}
 use Rattle.store.specs.State.{gather}
@@ -28,19 +27,6 @@ codesIn s = codesOf (entriesIn s)
 abbrev pub stackIn : State → List ℕ
 stackIn s = take (s .head .depth .0) (s .stack)
 
--- how many rows an answer says were written
-abbrev pub rowsSaid : Answer → ℕ
-rowsSaid (No r) = 0
-rowsSaid (New k) = k
-rowsSaid (Was v k) = k
-rowsSaid (Is v) = 0
-rowsSaid (Now v b k) = k
-rowsSaid Absent = 0
-rowsSaid (Entry e) = 0
-rowsSaid (Done k) = k
-rowsSaid (Count n) = 0
-rowsSaid (Flag b) = 0
-
 -- the codes of the rows that a call wrote: so many, from the beginning of the row lists
 abbrev pub rowCodes : Made → List ℕ
-rowCodes a = take (rowsSaid (a .answer)) (a .rows .codes)
+rowCodes a = take (rowCount (a .answer)) (a .rows .codes)

@@ -14,9 +14,9 @@ use Rattle.head.specs.Fresh.{freshHead}
 use Rattle.head.specs.Refusals.{numberOf}
 use Rattle.plan.specs.States.{State, state}
 use Rattle.door.specs.Served.{Calls, Tells}
-use Rattle.cache.specs.declared.Opened.{Opened}
-use Rattle.cache.specs.declared.Opened.the-variants.{Cache as Began, No}
-use Rattle.cache.specs.Begun.{Opens}
+use Rattle.opening.specs.declared.Opened.{Opened}
+use Rattle.opening.specs.declared.Opened.the-variants.{Cache as Began, No}
+use Rattle.opening.specs.Begun.{Opens}
 use Rattle.layout.specs.Heads.{headLeft}
 use Rattle.layout.specs.Numbered.{numbersOf, numbersLeft}
 

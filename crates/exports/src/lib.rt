@@ -1,5 +1,5 @@
 // What Rust and C link: opening, the calls that read, and every call, on lent lists of numbers. docs/LAYOUT.md has the layout of head, command and answer.
-use cache::Opened;
+use opening::Opened;
 ghost use mathlib.Core.Path.{_≡_};
 ghost use lib.ListN.{length};
 ghost use Rattle.head.specs.Fresh.{freshHead};
@@ -48,7 +48,7 @@ pub extern "C" fn weavestall_open(
     ensures { λ r. ⌜ Opening kind capacity slots (now (head .entry)) (now (head .exit)) (now (codes .entry)) (now (stamps .entry)) (now (values .entry)) (now (weights .entry)) (now (next .entry)) (now (prev .entry)) (now (stack .entry)) (now (cells .entry)) (now (codes .exit)) (now (stamps .exit)) (now (values .exit)) (now (weights .exit)) (now (next .exit)) (now (prev .exit)) (now (stack .exit)) (now (cells .exit)) r ⌝ }
 {
     let allowed = kind_for(kind, head.len());
-    let opened = cache::open(
+    let opened = opening::open(
         allowed,
         capacity,
         slots,

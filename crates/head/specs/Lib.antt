@@ -4,3 +4,4 @@ pub mod Refusals
 pub mod Rules
 pub mod Tails
 pub mod Fields
+pub mod Answers

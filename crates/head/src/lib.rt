@@ -1,6 +1,7 @@
 // What every layer shares: the head of a cache with its bounds and marks, the calls as commands, and what is answered.
 ghost use mathlib.Core.Path.{_≡_};
 ghost use mathlib.Core.Bool.{not};
+ghost use Rattle.head.specs.Answers.{rowCount};
 ghost use Rattle.head.specs.Bounds.{allowed};
 ghost use Rattle.head.specs.Fresh.{freshHead, reweighed, recapped};
 ghost use Rattle.head.specs.Refusals.{numberOf};
@@ -294,4 +295,28 @@ pub enum Answer {
     Done { rows: u32 },
     Count(u64),
     Flag(bool),
+}
+
+impl Answer {
+    // How many rows it counts, 0 where it counts none.
+    pub fn rows(self) -> u32
+        ensures { λ r. ⌜ r ≡ rowCount self ⌝ }
+    {
+        match self {
+            Answer::No(_) => 0,
+            Answer::New { rows } => rows,
+            Answer::Was { value: _, rows } => rows,
+            Answer::Is(_) => 0,
+            Answer::Now {
+                value: _,
+                new: _,
+                rows,
+            } => rows,
+            Answer::Absent => 0,
+            Answer::Entry(_) => 0,
+            Answer::Done { rows } => rows,
+            Answer::Count(_) => 0,
+            Answer::Flag(_) => 0,
+        }
+    }
 }

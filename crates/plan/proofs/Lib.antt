@@ -1,2 +1,3 @@
 pub mod Placed
 pub mod Fitting
+pub mod Likeness

@@ -14,17 +14,18 @@ use Rattle.head.specs.declared.Answer.{Answer}
 use Rattle.head.specs.declared.Answer.the-variants.{No}
 use Rattle.head.specs.declared.Refusal.the-variants.{Unsound}
 use Rattle.head.specs.declared.Command.{Command}
+use Rattle.head.specs.Answers.{rowCount}
 use Rattle.head.specs.Fields.{Fields}
 use Rattle.model.specs.Perform.{Cache, perform}
 use Rattle.model.proofs.Cases.{split}
+use Rattle.model.proofs.Handing.{rows-counted, rows-fit}
 use Rattle.store.specs.State.{blank}
 use Rattle.rows.specs.Written.{Written}
 use Rattle.rows.proofs.Callers.{written-row}
 use Rattle.plan.specs.States.{State, Means, Sound}
 use Rattle.door.specs.Served.{Serves, shortest, Calls, Tells}
-use Rattle.records.specs.Saving.{holds, copied, Saved, rowsOf}
+use Rattle.records.specs.Saving.{holds, copied, Saved}
 use Rattle.records.specs.Into.{laid, CallsInto, TellsInto}
-use Rattle.records.proofs.Counting.{counts, fewer}
 
 -- ---- what is copied of written rows
 
@@ -89,14 +90,14 @@ unfolding copied
 nothing-saved {n} {f} {before} {after} z s =
     s .records ∙ split (holds n f before) (λ t. rw (t, z) refl) (λ t. rw t refl)
 
-module _ (m : Command) (s : State) (rows rows' : Fields) (a : Answer) (before after : List Row) (r : Bool) (long : shortest rows ≡ length before) (saved : Saved (rowsOf a) rows' before after r) where
+module _ (m : Command) (s : State) (rows rows' : Fields) (a : Answer) (before after : List Row) (r : Bool) (long : shortest rows ≡ length before) (saved : Saved (rowCount a) rows' before after r) where
   module _ (c : Cache) (means : Means s c) (answer : a ≡ perform m (shortest rows) c .answer) (hands : Written (perform m (shortest rows) c .rows) rows rows') where
-    many : rowsOf a ≡ length (perform m (shortest rows) c .rows)
-    many = ap rowsOf answer ∙ counts m (shortest rows) c (means .lawful)
+    many : rowCount a ≡ length (perform m (shortest rows) c .rows)
+    many = ap rowCount answer ∙ rows-counted m (shortest rows) c (means .lawful .capacity .0)
 
-    all : holds (rowsOf a) rows' before ≡ true
+    all : holds (rowCount a) rows' before ≡ true
     all =
-        let l = fewer m (shortest rows) c in
+        let l = rows-fit m (shortest rows) c in
         all-hold hands before (omega (arith, many, long, l)) (omega (arith, many, l))
 
     is-saved : r ≡ true
@@ -104,15 +105,15 @@ module _ (m : Command) (s : State) (rows rows' : Fields) (a : Answer) (before af
 
     records-are : after ≡ laid (perform m (length before) c .rows) before
     records-are =
-        let l = fewer m (shortest rows) c in
-        let given : after ≡ copied (rowsOf a) rows' before = saved .records ∙ rw all refl in
+        let l = rows-fit m (shortest rows) c in
+        let given : after ≡ copied (rowCount a) rows' before = saved .records ∙ rw all refl in
         given
         ∙ ap (λ (n : ℕ). copied n rows' before) many
         ∙ copied-all before (perform m (shortest rows) c .rows) hands (omega (arith, long, l))
         ∙ ap (λ (n : ℕ). laid (perform m n c .rows) before) long
 
   refused-saved : a ≡ No Unsound → after ≡ before
-  refused-saved e = nothing-saved (ap rowsOf e) saved
+  refused-saved e = nothing-saved (ap rowCount e) saved
 
   pub calls-into : {t : State} → Calls m s t rows rows' a → CallsInto m s t before after a
   calls-into {t} p = record {
@@ -130,7 +131,7 @@ module _ (m : Command) (s : State) (rows rows' : Fields) (a : Answer) (before af
 
   -- nothing is handed out where no cache is described, so that is saved too
   none-saved : a ≡ No Unsound → r ≡ true
-  none-saved e = saved .answer ∙ rw (ap rowsOf e) (rw (leb·zero (length before), leb·zero (length (rows' .codes)), leb·zero (length (rows' .stamps)), leb·zero (length (rows' .values)), leb·zero (length (rows' .weights))) refl)
+  none-saved e = saved .answer ∙ rw (ap rowCount e) (rw (leb·zero (length before), leb·zero (length (rows' .codes)), leb·zero (length (rows' .stamps)), leb·zero (length (rows' .values)), leb·zero (length (rows' .weights))) refl)
 
   either-way : ((c : Cache) → Means s c → r ≡ true) → ((Sound s → ⊥) → r ≡ true) → r ≡ true
   either-way f g = settle r f g

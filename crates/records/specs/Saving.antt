@@ -7,8 +7,6 @@ use mathlib.Core.Path.{_≡_}
 use lib.Dec.{leb}
 use lib.ListN.{length, set}
 use Rattle.head.specs.declared.Row.{Row}
-use Rattle.head.specs.declared.Answer.{Answer}
-use Rattle.head.specs.declared.Answer.the-variants.{No, New, Was, Is, Now, Absent, Entry, Done, Count, Flag}
 use Rattle.head.specs.Fields.{Fields}
 use Rattle.store.specs.State.{entryIn}
 
@@ -25,16 +23,3 @@ copied (suc n) f rs = set (copied n f rs) n (entryIn f n)
 pub record Saved (n : ℕ) (f : Fields) (before after : List Row) (r : Bool) : Type 0 where
   pub answer : r ≡ holds n f before
   pub records : after ≡ cond (holds n f before) (copied n f before) before
-
--- how many rows an answer counts
-abbrev pub rowsOf : Answer → ℕ
-rowsOf (No r) = 0
-rowsOf (New n) = n
-rowsOf (Was v n) = n
-rowsOf (Is v) = 0
-rowsOf (Now v new n) = n
-rowsOf Absent = 0
-rowsOf (Entry e) = 0
-rowsOf (Done n) = n
-rowsOf (Count n) = 0
-rowsOf (Flag b) = 0

@@ -1,10 +1,8 @@
 // Rows as records: what a call wrote to the four row lists, copied into a list of rows.
-use head::Answer;
 use head::Code;
 use head::Row;
-ghost use mathlib.Core.Path.{_≡_};
 ghost use Rattle.store.specs.State.{fields};
-ghost use Rattle.records.specs.Saving.{Saved, rowsOf};
+ghost use Rattle.records.specs.Saving.{Saved};
 
 // Copies the first rows of the four row lists into the records, in order. Where a list or the records hold fewer it says false and writes nothing.
 pub fn save(
@@ -37,26 +35,4 @@ pub fn save(
         i += 1;
     }
     true
-}
-
-// How many rows an answer counts: what `save` is to copy after the call.
-pub fn counted(answer: Answer) -> u32
-    ensures { λ r. ⌜ r ≡ rowsOf answer ⌝ }
-{
-    match answer {
-        Answer::No(_) => 0,
-        Answer::New { rows } => rows,
-        Answer::Was { value: _, rows } => rows,
-        Answer::Is(_) => 0,
-        Answer::Now {
-            value: _,
-            new: _,
-            rows,
-        } => rows,
-        Answer::Absent => 0,
-        Answer::Entry(_) => 0,
-        Answer::Done { rows } => rows,
-        Answer::Count(_) => 0,
-        Answer::Flag(_) => 0,
-    }
 }

@@ -1,5 +1,4 @@
 // Makes calls that hand out rows, and writes the rows of each twice: from the four row lists, and from the records they are saved in.
-use cache::Opened;
 use head::Answer;
 use head::Code;
 use head::Command;
@@ -7,6 +6,7 @@ use head::Head;
 use head::Row;
 use head::Rule;
 use libc::STDOUT_FILENO;
+use opening::Opened;
 ghost use mathlib.Core.Path.{_≡_};
 ghost use Prim.Native.Nat.{_≤_};
 ghost use lib.ListN.{length};
@@ -152,7 +152,7 @@ fn show(
     if let Answer::No(r) = answer {
         say(b" no ", r.number() as u64);
     }
-    let n = records::counted(answer);
+    let n = answer.rows();
     say(b": rows ", n as u64);
     io::write_all(STDOUT_FILENO, b"\n  numbers");
     print_numbers(row_codes, row_stamps, row_values, row_weights, n);

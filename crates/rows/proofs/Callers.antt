@@ -2,7 +2,7 @@
 -- Assumes nothing.
 use Prim.Native.Nat.{ℕ, _≤_}
 use mathlib.Core.List.{List, [], _∷_, _++_, append-assoc}
-use mathlib.Core.Path.{_≡_, ap, _∙_}
+use mathlib.Core.Path.{_≡_, sym, ap, _∙_}
 use native.Mathlib.Omega.{arith}
 use lib.ListN.{length, getD, drop}
 use lib.Seq.{drop-at, getD-at}
@@ -99,6 +99,15 @@ written-tails {rows} w = record {
   values = overlaid-tail (length rows) (map-length (columns (λ e. e .value)) rows) (w .values);
   weights = overlaid-tail (length rows) (map-length (columns (λ e. e .weight)) rows) (w .weights);
 }
+
+-- rows written over one set of lists leave one set of lists
+pub one-written : {rows : List Row} {f g h : Fields} → Written rows f g → Written rows f h → g ≡ h
+one-written p q =
+    let codes = p .codes .same ∙ sym (q .codes .same) in
+    let stamps = p .stamps .same ∙ sym (q .stamps .same) in
+    let values = p .values .same ∙ sym (q .values .same) in
+    let weights = p .weights .same ∙ sym (q .weights .same) in
+    λ i. record { codes = codes i; stamps = stamps i; values = values i; weights = weights i }
 
 module _ (done : List Row) (e : Row) (rest : List Row) where
   number-at : {b a : List ℕ} (p : Row → ℕ) → Overlaid (column p (done ++ e ∷ rest)) b a → getD a (length done) 0 ≡ p e

@@ -5,16 +5,13 @@ use mathlib.Core.Bool.{Bool, true, false, not}
 use mathlib.Core.List.{List, [], _∷_}
 use mathlib.Core.Path.{_≡_, refl, sym, ap, _∙_}
 use native.Mathlib.Omega.{arith}
-use lib.Dec.{leb}
 use lib.ListN.{length, getD}
-use borrow.Author.Tests.{eq-eqb, ne-eqb}
 use Rattle.head.specs.declared.Head.{Head}
 use Rattle.head.specs.declared.Row.{Row}
 use Rattle.head.specs.declared.Rule.{Rule}
 use Rattle.head.specs.Bounds.{mostSlots}
-use Rattle.head.specs.Rules.{codeRule, valueRule, stampRule}
 use Rattle.model.specs.Codes.{one}
-use Rattle.model.specs.Desk.{passes, keeps}
+use Rattle.model.specs.Desk.{keeps}
 use Rattle.model.specs.Perform.{Cache}
 use Rattle.model.proofs.Cases.{split}
 use Rattle.table.specs.Links.{walk}
@@ -27,10 +24,6 @@ use Rattle.rows.specs.Views.{Forward}
 use Rattle.rows.specs.Answers.{removed, Read, Removes, Offered, Handed, Swept, WroteRemoved}
 use Rattle.rows.proofs.Chains.{Within, front-walk, order-within}
 use Rattle.rows.proofs.Laying.{Laying, laying-start, laying-end, laying-room, laying-step}
-
--- the third rule
-pub stamp-passes : (q : Rule) (e : Row) → (q .number ≡ codeRule → ⊥) → (q .number ≡ valueRule → ⊥) → q .number ≡ stampRule → passes q e ≡ leb (q .low) (e .stamp)
-stamp-passes q e a b t = rw (ne-eqb (q .number) codeRule a, ne-eqb (q .number) valueRule b, eq-eqb (q .number) stampRule t)
 
 pub removed-kept : (q : Rule) (e : Row) (es : List Row) → keeps q e ≡ true → removed q (e ∷ es) ≡ removed q es
 removed-kept q e es t = rw t

@@ -6,7 +6,7 @@ use mathlib.Core.List.{List, [], _∷_, _++_, reverse, reverse-cons, reverse-app
 use mathlib.Core.Path.{_≡_, refl, sym, ap, _∙_}
 use native.Mathlib.Omega.{arith}
 use lib.Dec.{eqb}
-use lib.ListN.{length, getD, take, drop, length-reverse, length-drop, take-append-drop}
+use lib.ListN.{length, getD, take, drop, length-reverse, take-append-drop}
 use lib.Seq.{take-at}
 use borrow.Author.Tests.{eqb-true, eqb-false, eq-eqb}
 use Rattle.head.specs.declared.Head.{Head}
@@ -16,6 +16,7 @@ use Rattle.model.specs.Lists.{without, only, oldest}
 use Rattle.model.specs.Perform.{Cache}
 use Rattle.model.proofs.Cases.{split, eqb-sym}
 use Rattle.model.proofs.Counting.{times, of-reverse}
+use Rattle.model.proofs.Handing.{oldest-length}
 use Rattle.model.proofs.Mapping.{map-length, map-without, map-oldest}
 use Rattle.table.specs.Orders.{omit}
 use Rattle.table.specs.Links.{walk}
@@ -98,10 +99,6 @@ without-none (suc i) (x ∷ xs) o = ap (λ (l : List _). x ∷ l) (without-none 
 pub only-end : {A : Type 0} (l : List A) → only (length l) l ≡ []
 only-end [] = refl
 only-end (x ∷ xs) = only-end xs
-
--- as many as there are to take
-pub oldest-length : {A : Type 0} (k : ℕ) (xs : List A) → k ≤ length xs → length (oldest k xs) ≡ k
-oldest-length k xs h = omega (arith, length-reverse (drop (length xs - k) xs), length-drop (length xs - k) xs)
 
 pub oldest-take : {A : Type 0} (k : ℕ) (xs : List A) → k ≤ length xs → oldest k xs ≡ take k (reverse xs)
 oldest-take {A} k xs h =

@@ -1,5 +1,4 @@
-// What deciding needs, on lists that are only read: an entry in its slot, a rule's test, how many must leave, and rows for the caller.
-use head::Code;
+// What deciding needs, on lists that are only read: how many must leave, and rows for the caller.
 use head::Head;
 use head::Row;
 use head::Rule;
@@ -8,65 +7,12 @@ ghost use mathlib.Core.Path.{_≡_};
 ghost use Prim.Native.Nat.{_+_, _-_, _<_};
 ghost use mathlib.Core.Bool.{not};
 ghost use lib.ListN.{length};
-ghost use Rattle.model.specs.Desk.{inRange, passes as passing, keeps as keeping};
+ghost use Rattle.model.specs.Desk.{keeps as keeping};
 ghost use Rattle.model.specs.Codes.{one};
-ghost use Rattle.store.specs.State.{fields, entryIn};
+ghost use Rattle.store.specs.State.{fields};
 ghost use Rattle.store.specs.Acts.{Writable};
 ghost use Rattle.rows.specs.Views.{pastAt, costAt, Countable};
 ghost use Rattle.rows.specs.Answers.{Budgeted, Leaves, Read, Removes, Aged, WroteOldest, Offered, Handed, Swept, WroteRemoved, Listable, WroteAll, ListableBack, WroteBack};
-
-// What a slot holds.
-pub fn row_at(codes: &[u64], stamps: &[u32], values: &[u64], weights: &[u64], slot: Slot) -> Row
-    requires { ⌜ Writable (slot .0) (fields (now codes) (now stamps) (now values) (now weights)) ⌝ }
-    ensures { λ r. ⌜ r ≡ entryIn (fields (now (codes .entry)) (now (stamps .entry)) (now (values .entry)) (now (weights .entry))) (slot .0) ⌝ }
-{
-    let i = slot.0 as usize;
-    Row {
-        code: Code(codes[i]),
-        stamp: stamps[i],
-        value: values[i],
-        weight: weights[i],
-    }
-}
-
-// Whether x is from low to high, both included.
-fn in_range(low: u64, high: u64, x: u64) -> bool
-    ensures { λ r. ⌜ r ≡ inRange low high x ⌝ }
-{
-    if x < low {
-        return false;
-    }
-    x <= high
-}
-
-// Whether an entry passes a rule, its "not" apart.
-fn passes(rule: Rule, row: Row) -> bool
-    ensures { λ r. ⌜ r ≡ passing rule row ⌝ }
-{
-    let code = row.code;
-    let stamp = row.stamp as u64;
-    if rule.number == Rule::CODE {
-        return in_range(rule.low, rule.high, code.0);
-    }
-    if rule.number == Rule::VALUE {
-        return in_range(rule.low, rule.high, row.value);
-    }
-    if rule.number == Rule::STAMP {
-        return rule.low <= stamp;
-    }
-    row.weight <= rule.high
-}
-
-// Whether a rule keeps an entry.
-pub fn keeps(rule: Rule, row: Row) -> bool
-    ensures { λ r. ⌜ r ≡ keeping rule row ⌝ }
-{
-    let pass = passes(rule, row);
-    if rule.not {
-        return !pass;
-    }
-    pass
-}
 
 // The slot itself, or the one ahead of it where it is the one to skip.
 fn past(prev: &[u32], slot: Slot, skip: Slot) -> Slot
@@ -114,7 +60,7 @@ pub fn leaving(head: Head, weights: &[u64], prev: &[u32], budget: u64, skip: Slo
 fn goes(rule: Rule, row: Row) -> u32
     ensures { λ r. ⌜ r ≡ one (not (keeping rule row)) ⌝ }
 {
-    if keeps(rule, row) {
+    if rules::keeps(rule, row) {
         return 0;
     }
     1
@@ -137,7 +83,7 @@ pub fn removed_by(
     let mut left = head.live;
     let mut n: u32 = 0;
     while 0 < left {
-        let row = row_at(codes, stamps, values, weights, slot);
+        let row = store::row_at(codes, stamps, values, weights, slot);
         n += goes(rule, row);
         slot = list::after(next, slot);
         left -= 1;
@@ -167,7 +113,7 @@ pub fn write_oldest(
     let mut j: u32 = 0;
     while j < k {
         let here = past(prev, oldest, skip);
-        let row = row_at(codes, stamps, values, weights, here);
+        let row = store::row_at(codes, stamps, values, weights, here);
         store::write(row_codes, row_stamps, row_values, row_weights, Slot(j), row);
         oldest = list::ahead(prev, here);
         j += 1;
@@ -187,7 +133,7 @@ fn hand_out(
     requires { ⌜ Offered (fields (now «row_codes») (now «row_stamps») (now «row_values») (now «row_weights»)) n rule row ⌝ }
     ensures { λ r. ⌜ Handed n rule row r (fields (now («row_codes» .entry)) (now («row_stamps» .entry)) (now («row_values» .entry)) (now («row_weights» .entry))) (fields (now («row_codes» .exit)) (now («row_stamps» .exit)) (now («row_values» .exit)) (now («row_weights» .exit))) ⌝ }
 {
-    if keeps(rule, row) {
+    if rules::keeps(rule, row) {
         return n;
     }
     store::write(row_codes, row_stamps, row_values, row_weights, Slot(n), row);
@@ -215,7 +161,7 @@ pub fn write_removed(
     let mut left = head.live;
     let mut n: u32 = 0;
     while 0 < left {
-        let row = row_at(codes, stamps, values, weights, slot);
+        let row = store::row_at(codes, stamps, values, weights, slot);
         n = hand_out(row_codes, row_stamps, row_values, row_weights, n, rule, row);
         slot = list::after(next, slot);
         left -= 1;

@@ -7,7 +7,7 @@ ghost use mathlib.Core.Path.{_≡_};
 ghost use Prim.Native.Nat.{_+_, _*_, _≤_, _<_};
 ghost use lib.ListN.{length, drop, set, replicate};
 ghost use mathlib.Core.List.{_++_};
-ghost use Rattle.store.specs.State.{fields};
+ghost use Rattle.store.specs.State.{fields, entryIn};
 ghost use Rattle.store.specs.Acts.{Writable, Wrote, Occupied, Dropped, Admits, Added, Rich, Shed, Spacious, Emptied, Holds, Capped};
 
 // Writes an entry into a slot.
@@ -28,6 +28,20 @@ pub fn write(
     stamps[i] = row.stamp;
     values[i] = row.value;
     weights[i] = row.weight;
+}
+
+// What a slot holds.
+pub fn row_at(codes: &[u64], stamps: &[u32], values: &[u64], weights: &[u64], slot: Slot) -> Row
+    requires { ⌜ Writable (slot .0) (fields (now codes) (now stamps) (now values) (now weights)) ⌝ }
+    ensures { λ r. ⌜ r ≡ entryIn (fields (now (codes .entry)) (now (stamps .entry)) (now (values .entry)) (now (weights .entry))) (slot .0) ⌝ }
+{
+    let i = slot.0 as usize;
+    Row {
+        code: Code(codes[i]),
+        stamp: stamps[i],
+        value: values[i],
+        weight: weights[i],
+    }
 }
 
 // Sets the value in a slot.

@@ -62,8 +62,8 @@ pub fn sweep(
     while 0 < left {
         let here = slot;
         slot = list::after(next, here);
-        let row = rows::row_at(codes, stamps, values, weights, here);
-        let keep = rows::keeps(rule, row);
+        let row = store::row_at(codes, stamps, values, weights, here);
+        let keep = rules::keeps(rule, row);
         h = judge(
             h,
             codes,

@@ -15,6 +15,7 @@ use Rattle.table.specs.declared.Search.the-variants.{Found, Empty}
 unfoldable pub wrap : ℕ → ℕ → ℕ
 wrap m t = cond (ltb t m) t (t - m)
 
+-- the cell after a cell, around the end
 unfoldable pub cellAfter : ℕ → ℕ → ℕ
 cellAfter m i = wrap m (i + 1)
 
@@ -35,6 +36,7 @@ past f (x ∷ xs) = elim (f x) [ true ↦ zero | false ↦ suc (past f xs) ]
 abbrev pub passed : List ℕ → List ℕ → ℕ → ℕ → ℕ → ℕ
 passed cells codes m h code = past (stops codes code) (ring cells m h)
 
+-- a number as a slot's
 abbrev pub slotOf : ℕ → Slot
 slotOf s = record { 0 = s }
 

@@ -9,6 +9,7 @@ use lib.ListN.{length, length-append}
 use Rattle.head.specs.declared.Row.{Row}
 use Rattle.head.specs.declared.Answer.{Answer}
 use Rattle.head.specs.declared.Command.{Command}
+use Rattle.head.specs.Answers.{rowCount}
 use Rattle.head.specs.Fields.{Fields, Reach}
 use Rattle.model.specs.Slots.{upFrom}
 use Rattle.store.specs.State.{entryIn, gather}
@@ -22,7 +23,7 @@ use Rattle.script.specs.declared.Line.{Line}
 use Rattle.plan.specs.States.{State}
 use Rattle.turn.specs.Turned.{Turns}
 use Rattle.turn.specs.Took.{Took}
-use Rattle.turn.specs.Replies.{isListing, listed, rowCount, rowsFrom, Roomy, shown, replied}
+use Rattle.turn.specs.Replies.{isListing, listed, rowsFrom, Roomy, shown, replied}
 
 -- ---- by cases
 
@@ -31,9 +32,6 @@ listing-as m n b e q = rw e q
 
 pub lists-as : (l k : Line) (b : Bool) → l ≡ k → b ≡ listed k → b ≡ listed l
 lists-as l k b e q = rw e q
-
-pub count-as : (a b : Answer) (n : ℕ) → a ≡ b → n ≡ rowCount b → n ≡ rowCount a
-count-as a b n e q = rw e q
 
 -- ---- the rows, one after another
 

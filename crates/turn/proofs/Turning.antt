@@ -15,9 +15,9 @@ use Rattle.plan.specs.States.{State, Means}
 use Rattle.store.specs.State.{Describes}
 use Rattle.door.specs.declared.Said.{Said}
 use Rattle.door.specs.Served.{Calls}
-use Rattle.cache.specs.declared.Opened.{Opened}
-use Rattle.cache.specs.declared.Opened.the-variants.{Cache as Began, No as NotBegun}
-use Rattle.cache.specs.Begun.{Opens}
+use Rattle.opening.specs.declared.Opened.{Opened}
+use Rattle.opening.specs.declared.Opened.the-variants.{Cache as Began, No as NotBegun}
+use Rattle.opening.specs.Begun.{Opens}
 use Rattle.script.specs.declared.Line.{Line}
 use Rattle.script.specs.declared.Line.the-variants.{Open, Call, Unknown}
 use Rattle.turn.specs.Turned.{begun, Opening, Turns}

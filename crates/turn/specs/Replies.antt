@@ -6,9 +6,9 @@ use mathlib.Core.List.{List, []}
 use lib.ListN.{length}
 use Rattle.head.specs.declared.Row.{Row}
 use Rattle.head.specs.declared.Answer.{Answer}
-use Rattle.head.specs.declared.Answer.the-variants.{No, New, Was, Is, Now, Absent, Entry, Done, Count, Flag}
 use Rattle.head.specs.declared.Command.{Command}
 use Rattle.head.specs.declared.Command.the-variants.{Len, Capacity, Weight, IsEmpty, IsFull, Front, Back, Peek, Contains, List as ListFront, ListBack, Get, Pop, PopFront, PopBack, Put, PutWithWeight, Clear, Retain, Resize, PutOrModify, TryPutOrModify, GetMut, PeekMut, FrontMut, BackMut}
+use Rattle.head.specs.Answers.{rowCount}
 use Rattle.head.specs.Fields.{Fields, Reach}
 use Rattle.model.specs.Slots.{upFrom}
 use Rattle.store.specs.State.{gather}
@@ -50,19 +50,6 @@ abbrev pub listed : Line → Bool
 listed (Open kind c n) = false
 listed (Call m) = isListing m
 listed Unknown = false
-
--- how many rows an answer counts
-abbrev pub rowCount : Answer → ℕ
-rowCount (No r) = 0
-rowCount (New rows) = rows
-rowCount (Was v rows) = rows
-rowCount (Is v) = 0
-rowCount (Now v new rows) = rows
-rowCount Absent = 0
-rowCount (Entry e) = 0
-rowCount (Done rows) = rows
-rowCount (Count k) = 0
-rowCount (Flag b) = 0
 
 -- the first n rows of four lists
 abbrev pub rowsFrom : ℕ → Fields → List Row

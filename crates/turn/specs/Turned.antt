@@ -13,9 +13,9 @@ use Rattle.store.specs.Acts.{Tails}
 use Rattle.plan.specs.States.{State, Means}
 use Rattle.door.specs.declared.Said.{Said}
 use Rattle.door.specs.Served.{Calls}
-use Rattle.cache.specs.declared.Opened.{Opened}
-use Rattle.cache.specs.declared.Opened.the-variants.{Cache as Began, No as NotBegun}
-use Rattle.cache.specs.Begun.{spacious}
+use Rattle.opening.specs.declared.Opened.{Opened}
+use Rattle.opening.specs.declared.Opened.the-variants.{Cache as Began, No as NotBegun}
+use Rattle.opening.specs.Begun.{spacious}
 use Rattle.script.specs.declared.Line.{Line}
 use Rattle.script.specs.declared.Line.the-variants.{Open, Call, Unknown}
 

@@ -1,11 +1,11 @@
 // One line of the script, carried out on the lent lists.
-use cache::Opened;
 use door::Said;
 use head::Answer;
 use head::Command;
 use head::Head;
 use head::Refusal;
 use head::Slot;
+use opening::Opened;
 use script::Line;
 ghost use mathlib.Core.Path.{_≡_};
 ghost use Prim.Native.Nat.{min};
@@ -17,7 +17,7 @@ ghost use lib.Seq.{slice};
 ghost use Rattle.script.specs.Grammar.{understood};
 ghost use Rattle.turn.specs.Turned.{begun, Turns};
 ghost use Rattle.turn.specs.Took.{Takes, Took};
-ghost use Rattle.turn.specs.Replies.{isListing, listed, rowCount, rowsFrom, Roomy, shown, replied};
+ghost use Rattle.turn.specs.Replies.{isListing, listed, rowsFrom, Roomy, shown, replied};
 
 // What opening says: the fresh head, or the refusal beside the head that stood.
 fn begin(head: Head, opened: Opened) -> Said
@@ -60,7 +60,7 @@ pub fn carry_out(
             capacity,
             slots,
         } => {
-            let opened = cache::open(
+            let opened = opening::open(
                 kind,
                 capacity,
                 slots,
@@ -165,28 +165,6 @@ pub fn lists(line: Line) -> bool
     }
 }
 
-// How many rows an answer counts.
-fn rows_of(answer: Answer) -> u32
-    ensures { λ r. ⌜ r ≡ rowCount answer ⌝ }
-{
-    match answer {
-        Answer::No(_) => 0,
-        Answer::New { rows } => rows,
-        Answer::Was { value: _, rows } => rows,
-        Answer::Is(_) => 0,
-        Answer::Now {
-            value: _,
-            new: _,
-            rows,
-        } => rows,
-        Answer::Absent => 0,
-        Answer::Entry(_) => 0,
-        Answer::Done { rows } => rows,
-        Answer::Count(_) => 0,
-        Answer::Flag(_) => 0,
-    }
-}
-
 // Writes the lines of the first n rows.
 fn write_rows(
     buffer: &mut [u8],
@@ -203,7 +181,7 @@ fn write_rows(
     let mut at: usize = 0;
     let mut j: u32 = 0;
     while j < n {
-        let row = rows::row_at(row_codes, row_stamps, row_values, row_weights, Slot(j));
+        let row = store::row_at(row_codes, row_stamps, row_values, row_weights, Slot(j));
         at = lines::write_row(buffer, at, stay, row);
         j += 1;
     }
@@ -233,7 +211,7 @@ pub fn reply(
     requires { ⌜ Roomy (shown answer (fields (now «row_codes») (now «row_stamps») (now «row_values») (now «row_weights»))) (fields (now «row_codes») (now «row_stamps») (now «row_values») (now «row_weights»)) (now buffer) ⌝ }
     ensures { λ r. ⌜ Laid 0 (replied stay (fields (now («row_codes» .entry)) (now («row_stamps» .entry)) (now («row_values» .entry)) (now («row_weights» .entry))) answer) r (now (buffer .entry)) (now (buffer .exit)) ⌝ }
 {
-    let n = rows_of(answer);
+    let n = answer.rows();
     let a = at_most(n, row_codes.len());
     let b = at_most(a, row_stamps.len());
     let c = at_most(b, row_values.len());

@@ -1,32 +1,27 @@
+-- `decide::admit` meets its contract.
+-- Assumes nothing.
 use borrow.Author.Needs.{needs}
 use Rattle.decide.proofs.Leaves.{no-room, has-room}
 use Rattle.decide.proofs.admit.Statement.{statement}
 use Rattle.decide.proofs.admit.Tie as tie
-use Rattle.decide.proofs.admit.Reads as reads
-use Rattle.decide.proofs.admit.Lts as lts
 use Rattle.decide.proofs.no_slot.Reads as no-slot-reads
 use Rattle.decide.proofs.within.Reads as within-reads
 use Rattle.plan.proofs.Decision.refuse.Reads as refuse-reads
 
--- src/lib.rt:54:8
 no-slot-requires : tie.Need-no-slot-requires
 no-slot-requires c κs = search needs
 
--- src/lib.rt:55:9
 refuse-requires : tie.Need-refuse-requires
 refuse-requires c κs = search needs
 
--- src/lib.rt:55:9
 returns : tie.Need-returns
 returns c =
     let a = c .before .before .before .args in
     no-room (a .head) (a .room) (a .k) (a .row) (a .answer) (c .before .before .no-slot .ensures) (c .refuse .ensures) (c .before .if1 .taken)
 
--- src/lib.rt:57:5
 within-requires : tie.Need-within-requires
 within-requires c κs = search needs
 
--- src/lib.rt:51:1
 returns-2 : tie.Need-returns-2
 returns-2 c =
     let a = c .before .before .before .args in

@@ -1,14 +1,12 @@
+-- `decide::capacity_ok` meets its contract.
+-- Assumes nothing.
 use Rattle.decide.proofs.Leaves.{capacity-none, capacity-most}
 use Rattle.decide.proofs.capacity_ok.Statement.{statement}
 use Rattle.decide.proofs.capacity_ok.Tie as tie
-use Rattle.decide.proofs.capacity_ok.Reads as reads
-use Rattle.decide.proofs.capacity_ok.Lts as lts
 
--- src/lib.rt:527:9
 returns : tie.Need-returns
 returns c = capacity-none _ (c .if1 .taken)
 
--- src/lib.rt:523:1
 returns-2 : tie.Need-returns-2
 returns-2 c = capacity-most _ (c .if1 .left)
 

@@ -1,14 +1,12 @@
+-- `decide::over` meets its contract.
+-- Assumes nothing.
 use Rattle.decide.proofs.Leaves.{over-already, over-then}
 use Rattle.decide.proofs.over.Statement.{statement}
 use Rattle.decide.proofs.over.Tie as tie
-use Rattle.decide.proofs.over.Reads as reads
-use Rattle.decide.proofs.over.Lts as lts
 
--- src/lib.rt:84:9
 returns : tie.Need-returns
 returns c = over-already _ _ _ (c .if1 .taken)
 
--- src/lib.rt:80:1
 returns-2 : tie.Need-returns-2
 returns-2 c = over-then _ _ _ (c .if1 .left)
 

@@ -1,26 +1,22 @@
+-- `decide::pop_end` meets its contract.
+-- Assumes nothing.
 use borrow.Author.Needs.{needs}
 use Rattle.store.specs.State.{fields}
 use Rattle.decide.proofs.Leaves.{popped-none, popped-entry}
 use Rattle.decide.proofs.pop_end.Statement.{statement}
 use Rattle.decide.proofs.pop_end.Tie as tie
-use Rattle.decide.proofs.pop_end.Reads as reads
-use Rattle.decide.proofs.pop_end.Lts as lts
 use Rattle.plan.proofs.Decision.say.Reads as say-reads
-use Rattle.rows.proofs.row_at.Reads as row-at-reads
+use Rattle.store.proofs.row_at.Reads as row-at-reads
 
--- src/lib.rt:155:9
 say-requires : tie.Need-say-requires
 say-requires c κs = search needs
 
--- src/lib.rt:155:9
 returns : tie.Need-returns
 returns c = popped-none (fields (c .before .before .before .before .before .before .before .args .codes .now) (c .before .before .before .before .before .before .before .args .stamps .now) (c .before .before .before .before .before .before .before .args .values .now) (c .before .before .before .before .before .before .before .args .weights .now)) (c .before .before .before .before .before .before .before .args .slot) (c .say .ensures) (c .before .if1 .taken)
 
--- src/lib.rt:157:9
 row-at-requires : tie.Need-row-at-requires
 row-at-requires c κs = c .before .before .before .before .before .before .pre (c .if1 .left)
 
--- src/lib.rt:150:1
 returns-2 : tie.Need-returns-2
 returns-2 c = popped-entry (fields (c .before .before .before .before .before .before .before .args .codes .now) (c .before .before .before .before .before .before .before .args .stamps .now) (c .before .before .before .before .before .before .before .args .values .now) (c .before .before .before .before .before .before .before .args .weights .now)) (c .before .before .before .before .before .before .before .args .slot) (c .row-at .ensures) (c .before .if1 .left)
 

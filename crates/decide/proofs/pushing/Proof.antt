@@ -1,19 +1,16 @@
+-- `decide::pushing` meets its contract.
+-- Assumes nothing.
 use borrow.Author.Needs.{needs}
 use Rattle.decide.proofs.Leaves.{pushes-one, pushes-none}
 use Rattle.decide.proofs.pushing.Statement.{statement}
 use Rattle.decide.proofs.pushing.Tie as tie
-use Rattle.decide.proofs.pushing.Reads as reads
-use Rattle.decide.proofs.pushing.Lts as lts
 
--- src/lib.rt:62:16
 cast-live : tie.Need-cast-live
 cast-live c = search needs
 
--- src/lib.rt:64:9
 returns : tie.Need-returns
 returns c = pushes-one (c .before .before .before .args .head) (c .if1 .taken)
 
--- src/lib.rt:59:1
 returns-2 : tie.Need-returns-2
 returns-2 c = pushes-none (c .before .before .before .args .head) (c .if1 .left)
 

@@ -1,30 +1,25 @@
+-- `decide::show` meets its contract.
+-- Assumes nothing.
 use borrow.Author.Needs.{needs}
 use Rattle.store.specs.State.{fields}
 use Rattle.decide.proofs.Leaves.{shown-none, shown-entry}
 use Rattle.decide.proofs.show.Statement.{statement}
 use Rattle.decide.proofs.show.Tie as tie
-use Rattle.decide.proofs.show.Reads as reads
-use Rattle.decide.proofs.show.Lts as lts
 use Rattle.plan.proofs.Decision.say.Reads as say-reads
-use Rattle.rows.proofs.row_at.Reads as row-at-reads
+use Rattle.store.proofs.row_at.Reads as row-at-reads
 
--- src/lib.rt:143:9
 say-requires : tie.Need-say-requires
 say-requires c κs = search needs
 
--- src/lib.rt:143:9
 returns : tie.Need-returns
 returns c = shown-none (fields (c .before .before .before .before .before .before .before .args .codes .now) (c .before .before .before .before .before .before .before .args .stamps .now) (c .before .before .before .before .before .before .before .args .values .now) (c .before .before .before .before .before .before .before .args .weights .now)) (c .before .before .before .before .before .before .before .args .slot) (c .say .ensures) (c .before .if1 .taken)
 
--- src/lib.rt:145:9
 row-at-requires : tie.Need-row-at-requires
 row-at-requires c κs = c .before .before .before .before .before .before .pre (c .if1 .left)
 
--- src/lib.rt:146:5
 say-requires-2 : tie.Need-say-requires-2
 say-requires-2 c κs = search needs
 
--- src/lib.rt:138:1
 returns-2 : tie.Need-returns-2
 returns-2 c = shown-entry (fields (c .before .before .before .before .before .before .before .before .args .codes .now) (c .before .before .before .before .before .before .before .before .args .stamps .now) (c .before .before .before .before .before .before .before .before .args .values .now) (c .before .before .before .before .before .before .before .before .args .weights .now)) (c .before .before .before .before .before .before .before .before .args .slot) (c .say2 .ensures) (c .before .row-at .ensures) (c .before .before .if1 .left)
 

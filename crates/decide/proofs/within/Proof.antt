@@ -1,20 +1,17 @@
+-- `decide::within` meets its contract.
+-- Assumes nothing.
 use borrow.Author.Needs.{needs}
 use Rattle.decide.proofs.Leaves.{too-few, few-enough}
 use Rattle.decide.proofs.within.Statement.{statement}
 use Rattle.decide.proofs.within.Tie as tie
-use Rattle.decide.proofs.within.Reads as reads
-use Rattle.decide.proofs.within.Lts as lts
 use Rattle.plan.proofs.Decision.refuse.Reads as refuse-reads
 
--- src/lib.rt:34:9
 refuse-requires : tie.Need-refuse-requires
 refuse-requires c κs = search needs
 
--- src/lib.rt:34:9
 returns : tie.Need-returns
 returns c = too-few _ _ _ (c .refuse .ensures) (c .before .if1 .taken)
 
--- src/lib.rt:30:1
 returns-2 : tie.Need-returns-2
 returns-2 c = few-enough _ _ _ (c .if1 .left)
 

@@ -1,4 +1,4 @@
--- `exports::weavestall_open` meets its contract: `cache::open`, and the head written.
+-- `exports::weavestall_open` meets its contract: `opening::open`, and the head written.
 -- Assumes nothing.
 use Rattle.exports.proofs.Exchanged.{opening}
 use Rattle.exports.proofs.weavestall_open.Statement.{statement}

@@ -1,4 +1,4 @@
--- `claims::numbers_of` meets its contract: each arm is the definition's clause.
+-- `layout::numbers_of` meets its contract: each arm is the definition's clause.
 -- Assumes nothing.
 use borrow.Author.Needs.{needs}
 use Rattle.layout.proofs.Laid.{told-as, no-as, now-as, flag-as}

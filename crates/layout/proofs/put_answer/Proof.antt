@@ -1,25 +1,21 @@
+-- `layout::put_answer` meets its contract.
+-- Assumes nothing.
 use borrow.Author.Needs.{needs}
 use Rattle.layout.proofs.Laid.{answered}
 use Rattle.layout.proofs.put_answer.Statement.{statement}
 use Rattle.layout.proofs.put_answer.Tie as tie
-use Rattle.layout.proofs.put_answer.Reads as reads
-use Rattle.layout.proofs.put_answer.Lts as lts
 use Rattle.layout.proofs.numbers_of.Reads as numbers-of-reads
 use Rattle.layout.proofs.put_numbers.Reads as put-numbers-reads
 
--- src/lib.rt:374:9
 numbers-of-requires : tie.Need-numbers-of-requires
 numbers-of-requires c κs = search needs
 
--- src/lib.rt:375:5
 put-numbers-requires : tie.Need-put-numbers-requires
 put-numbers-requires c κs = search needs
 
--- src/lib.rt:371:1
 same-length : tie.Need-same-length
 same-length c = search needs
 
--- src/lib.rt:371:1
 returns : tie.Need-returns
 returns c = answered (c .before .before .before .before .before .before .args .list .now) (c .before .before .before .before .before .before .args .answer) (c .before .before .before .before .numbers-of .result) (c .before .before .before .before .numbers-of .ensures) (c .before .before .put-numbers .ensures)
 

@@ -1,23 +1,19 @@
+-- `layout::retain_of` meets its contract.
+-- Assumes nothing.
 use borrow.Author.Needs.{needs}
 use Rattle.layout.proofs.Laid.{rule-none, rule-not, rule-one}
 use Rattle.layout.proofs.retain_of.Statement.{statement}
 use Rattle.layout.proofs.retain_of.Tie as tie
-use Rattle.layout.proofs.retain_of.Reads as reads
-use Rattle.layout.proofs.retain_of.Lts as lts
 
--- src/lib.rt:132:9
 returns : tie.Need-returns
 returns c = rule-none (c .before .args .a) (c .before .args .b) (c .before .args .c) (c .before .args .d) (c .if1 .taken)
 
--- src/lib.rt:135:9
 returns-2 : tie.Need-returns-2
 returns-2 c = rule-not (c .before .before .args .a) (c .before .before .args .b) (c .before .before .args .c) (c .before .before .args .d) (c .before .if1 .left) (c .if2 .taken)
 
--- src/lib.rt:138:36
 cast-t7 : tie.Need-cast-t7
 cast-t7 c = search needs
 
--- src/lib.rt:128:1
 returns-3 : tie.Need-returns-3
 returns-3 c = rule-one (c .before .before .args .a) (c .before .before .args .b) (c .before .before .args .c) (c .before .before .args .d) (c .before .if1 .left) (c .if2 .left)
 

@@ -1,19 +1,16 @@
+-- `layout::try_put_or_modify_of` meets its contract.
+-- Assumes nothing.
 use borrow.Author.Needs.{needs}
 use Rattle.layout.proofs.Laid.{stamp-in, stamp-out}
 use Rattle.layout.proofs.try_put_or_modify_of.Statement.{statement}
 use Rattle.layout.proofs.try_put_or_modify_of.Tie as tie
-use Rattle.layout.proofs.try_put_or_modify_of.Reads as reads
-use Rattle.layout.proofs.try_put_or_modify_of.Lts as lts
 
--- src/lib.rt:122:57
 cast-t8 : tie.Need-cast-t8
 cast-t8 c = search needs
 
--- src/lib.rt:118:1
 returns : tie.Need-returns
 returns c = stamp-in _ _ (c .if1 .taken)
 
--- src/lib.rt:118:1
 returns-2 : tie.Need-returns-2
 returns-2 c = stamp-out _ _ (c .if1 .left)
 

@@ -1,3 +1,5 @@
+-- `script::read_numbers` meets its contract.
+-- Assumes nothing.
 -- `script::read_numbers` meets its contract. The invariant: the whole is the numbers so far with the words from here on behind them.
 -- The measure: bytes not read yet. Assumes nothing.
 use Prim.Native.Nat.{_≤_, _-_}

@@ -1,3 +1,5 @@
+-- `script::word_end` meets its contract.
+-- Assumes nothing.
 -- `script::word_end` meets its contract. The invariant: where the first word of what is left ends, the first word of the whole ends.
 -- The measure: bytes not looked at yet. Assumes nothing.
 use Prim.Native.Nat.{ℕ, _≤_, _-_}

@@ -6,54 +6,40 @@ use Rattle.script.specs.declared.Numbers.{Numbers}
 use Rattle.script.specs.Numerals.{withOne}
 use Rattle.script.proofs.Numbers.with.Statement.{statement}
 use Rattle.script.proofs.Numbers.with.Tie as tie
-use Rattle.script.proofs.Numbers.with.Reads as reads
-use Rattle.script.proofs.Numbers.with.Lts as lts
 
--- src/lib.rt:50:32
 enum-told : tie.Need-enum-told
 enum-told c = search needs
 
--- src/lib.rt:51:26
 enum-known-self : tie.Need-enum-known-self
 enum-known-self c = search needs
 
--- src/lib.rt:52:26
 enum-known-self-2 : tie.Need-enum-known-self-2
 enum-known-self-2 c = search needs
 
--- src/lib.rt:53:28
 enum-known-self-3 : tie.Need-enum-known-self-3
 enum-known-self-3 c = search needs
 
--- src/lib.rt:54:42
 enum-told-2 : tie.Need-enum-told-2
 enum-told-2 c = search needs
 
--- src/lib.rt:55:32
 enum-told-3 : tie.Need-enum-told-3
 enum-told-3 c = search needs
 
--- src/lib.rt:46:5
 returns : tie.Need-returns
 returns c = sym (ap (λ (s : Numbers). withOne s (c .before .before .args .x)) (c .enum-told .given .1))
 
--- src/lib.rt:46:5
 returns-2 : tie.Need-returns-2
 returns-2 c = sym (ap (λ (s : Numbers). withOne s (c .before .before .before .args .x)) (c .before .self .given .1))
 
--- src/lib.rt:46:5
 returns-3 : tie.Need-returns-3
 returns-3 c = sym (ap (λ (s : Numbers). withOne s (c .before .before .before .args .x)) (c .before .self2 .given .1))
 
--- src/lib.rt:46:5
 returns-4 : tie.Need-returns-4
 returns-4 c = sym (ap (λ (s : Numbers). withOne s (c .before .before .before .args .x)) (c .before .self3 .given .1))
 
--- src/lib.rt:46:5
 returns-5 : tie.Need-returns-5
 returns-5 c = search needs
 
--- src/lib.rt:46:5
 returns-6 : tie.Need-returns-6
 returns-6 c = search needs
 

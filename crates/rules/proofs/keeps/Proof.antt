@@ -1,10 +1,10 @@
--- `rows::keeps` meets its contract.
+-- `rules::keeps` meets its contract.
 -- Assumes nothing.
 use mathlib.Core.Bool.{not}
 use mathlib.Core.Path.{ap}
 use borrow.Author.Needs.{needs}
-use Rattle.rows.proofs.keeps.Statement.{statement}
-use Rattle.rows.proofs.keeps.Tie as tie
+use Rattle.rules.proofs.keeps.Statement.{statement}
+use Rattle.rules.proofs.keeps.Tie as tie
 
 passes-requires : tie.Need-passes-requires
 passes-requires c κs = search needs

@@ -1,11 +1,11 @@
--- `rows::passes` meets its contract: the rule is found by its number.
+-- `rules::passes` meets its contract: the rule is found by its number.
 -- Assumes nothing.
 use mathlib.Core.Path.{sym}
 use borrow.Author.Tests.{eq-eqb, ne-eqb}
-use Rattle.rows.proofs.Sweeping.{stamp-passes}
+use Rattle.rules.proofs.Passing.{stamp-passes}
 use borrow.Author.Needs.{needs}
-use Rattle.rows.proofs.passes.Statement.{statement}
-use Rattle.rows.proofs.passes.Tie as tie
+use Rattle.rules.proofs.passes.Statement.{statement}
+use Rattle.rules.proofs.passes.Tie as tie
 
 cast-stamp : tie.Need-cast-stamp
 cast-stamp c = search needs

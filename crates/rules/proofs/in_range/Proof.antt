@@ -1,8 +1,8 @@
--- `rows::in_range` meets its contract.
+-- `rules::in_range` meets its contract.
 -- Assumes nothing.
 use borrow.Author.Tests.{lt-leb, le-leb}
-use Rattle.rows.proofs.in_range.Statement.{statement}
-use Rattle.rows.proofs.in_range.Tie as tie
+use Rattle.rules.proofs.in_range.Statement.{statement}
+use Rattle.rules.proofs.in_range.Tie as tie
 
 returns : tie.Need-returns
 returns c = simp (lt-leb _ _ (c .if1 .taken))

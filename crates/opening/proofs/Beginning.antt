@@ -23,9 +23,9 @@ use Rattle.store.specs.State.{Describes}
 use Rattle.store.specs.Acts.{Spacious, Emptied}
 use Rattle.store.proofs.Emptied.{empty-described}
 use Rattle.plan.specs.States.{State, Means, TailsKept}
-use Rattle.cache.specs.declared.Opened.{Opened}
-use Rattle.cache.specs.declared.Opened.the-variants.{Cache as Began, No}
-use Rattle.cache.specs.Begun.{longEnough, spacious, Opens}
+use Rattle.opening.specs.declared.Opened.{Opened}
+use Rattle.opening.specs.declared.Opened.the-variants.{Cache as Began, No}
+use Rattle.opening.specs.Begun.{longEnough, spacious, Opens}
 
 -- ---- which of the two an opening is
 

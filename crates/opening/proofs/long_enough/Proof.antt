@@ -1,9 +1,9 @@
--- `cache::long_enough` meets its contract.
+-- `opening::long_enough` meets its contract.
 -- Assumes nothing.
-use Rattle.cache.proofs.Beginning.{short-1, short-2, short-3, short-4, short-5, short-6, short-7, long-8}
+use Rattle.opening.proofs.Beginning.{short-1, short-2, short-3, short-4, short-5, short-6, short-7, long-8}
 use borrow.Author.Needs.{needs}
-use Rattle.cache.proofs.long_enough.Statement.{statement}
-use Rattle.cache.proofs.long_enough.Tie as tie
+use Rattle.opening.proofs.long_enough.Statement.{statement}
+use Rattle.opening.proofs.long_enough.Tie as tie
 
 returns : tie.Need-returns
 returns c = short-1 (c .before .args .n) (c .before .args .codes) (c .before .args .stamps) (c .before .args .values) (c .before .args .weights) (c .before .args .next) (c .before .args .prev) (c .before .args .stack) (c .before .args .cells) (c .if1 .taken)

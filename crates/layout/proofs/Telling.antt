@@ -9,29 +9,8 @@ use Rattle.head.specs.declared.Answer.the-variants.{No, New, Was, Is, Now, Abse
 use Rattle.head.specs.declared.Refusal.{Refusal}
 use Rattle.head.specs.declared.Refusal.the-variants.{NotOpened, Unsound, WrongKind, TooHeavy, NoSlot, TooFewRows, OverCeiling, NotUnderstood}
 use Rattle.head.specs.Refusals.{numberOf}
-use Rattle.model.specs.Desk.{entry}
-use Rattle.claims.specs.declared.Numbers.{Numbers}
-use Rattle.claims.specs.Numbered.{bit, numbered, numbersOf}
-
--- ---- the code's answers
-
--- equal answers have equal numbers
-pub told-as : {x y : Answer} → x ≡ y → numbersOf y ≡ numbersOf x
-told-as e = sym (ap numbersOf e)
-
--- a refusal by its number
-pub no-as : {x : Answer} {r : Refusal} {k : ℕ} → x ≡ No r → k ≡ numberOf r → numbered k 0 0 0 0 0 0 0 ≡ numbersOf x
-no-as e q = ap (λ (k : ℕ). numbered k 0 0 0 0 0 0 0) q ∙ told-as e
-
--- a value that is held now
-pub now-as : {x : Answer} {v n k : ℕ} {b : Bool} → x ≡ Now v b n → k ≡ bit b → numbered 0 4 v n k 0 0 0 ≡ numbersOf x
-now-as {v = v} {n} e q = ap (λ (k : ℕ). numbered 0 4 v n k 0 0 0) q ∙ told-as e
-
--- a flag
-pub flag-as : {x : Answer} {k : ℕ} {b : Bool} → x ≡ Flag b → k ≡ bit b → numbered 0 9 0 0 k 0 0 0 ≡ numbersOf x
-flag-as e q = ap (λ (k : ℕ). numbered 0 9 0 0 k 0 0 0) q ∙ told-as e
-
--- ---- back from the numbers
+use Rattle.layout.specs.declared.Numbers.{Numbers}
+use Rattle.layout.specs.Numbered.{bit, numbered, numbersOf}
 
 -- the refusal of a number
 refusalAt : ℕ → Refusal
@@ -67,7 +46,7 @@ answerOf n =
     (cond (eqb (n .word) 3) (Is (n .value))
     (cond (eqb (n .word) 4) (Now (n .value) (eqb (n .fresh) 1) (n .rows))
     (cond (eqb (n .word) 5) Absent
-    (cond (eqb (n .word) 6) (Entry (entry (n .code) (n .stamp) (n .value) (n .weight)))
+    (cond (eqb (n .word) 6) (Entry (record { code = record { 0 = n .code }; stamp = n .stamp; value = n .value; weight = n .weight }))
     (cond (eqb (n .word) 7) (Done (n .rows)) (cond (eqb (n .word) 8) (Count (n .value)) (Flag (eqb (n .fresh) 1))))))))))
 
 -- the numbers of an answer lead back to it

@@ -9,8 +9,8 @@ use lib.ListN.{length}
 use Rattle.head.specs.declared.Refusal.{Refusal}
 use Rattle.model.specs.Perform.{Cache, opening, refused, opened}
 use Rattle.plan.specs.States.{State, Means, TailsKept}
-use Rattle.cache.specs.declared.Opened.{Opened}
-use Rattle.cache.specs.declared.Opened.the-variants.{Cache as Began, No}
+use Rattle.opening.specs.declared.Opened.{Opened}
+use Rattle.opening.specs.declared.Opened.the-variants.{Cache as Began, No}
 
 -- n slots have room in lists of these lengths
 abbrev pub longEnough : ℕ → ℕ → ℕ → ℕ → ℕ → ℕ → ℕ → ℕ → ℕ → Bool
