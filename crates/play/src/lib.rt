@@ -2,15 +2,16 @@
 use head::Head;
 use libc::STDIN_FILENO;
 use libc::STDOUT_FILENO;
-ghost use Prim.Native.Nat.{_≤_, _<_};
-ghost use lib.ListN.{length};
+ghost use mathlib.Core.Path.{_≡_};
+ghost use Prim.Native.Nat.{_≤_};
 ghost use Rattle.store.specs.State.{fields};
+ghost use Rattle.play.specs.Cutting.{lineEnd, nextLine, Begins};
 ghost use Rattle.play.specs.Playing.{Plays};
 
-// Where the line that begins at `from` ends: at the next newline, or at the end of the input.
+// Where the line that begins at `from` ends: at the next newline, or at the end of the input. It asks for a line's beginning, so `play` has to show that it goes from line to line.
 fn line_end(input: &[u8], from: usize, n: usize) -> usize
-    requires { ⌜ (from ≤ n) × (n ≤ length (now input)) ⌝ }
-    ensures { λ r. ⌜ (from ≤ r) × (r ≤ n) ⌝ }
+    requires { ⌜ Begins (now input) n from ⌝ }
+    ensures { λ r. ⌜ r ≡ lineEnd (now (input .entry)) from n ⌝ }
 {
     let mut at = from;
     while at < n {
@@ -23,14 +24,12 @@ fn line_end(input: &[u8], from: usize, n: usize) -> usize
 }
 
 // Where the next line begins; at the end of the input where nothing can be written any more.
-fn next_line(written: bool, from: usize, to: usize, n: usize) -> usize
-    requires { ⌜ (from < n) × (from ≤ to) × (to ≤ n) × (n ≤ 32768) ⌝ }
-    ensures { λ r. ⌜ from < r ⌝ }
+fn next_line(written: bool, to: usize, n: usize) -> usize
+    requires { ⌜ (to ≤ n) × (n ≤ 32768) ⌝ }
+    ensures { λ r. ⌜ r ≡ nextLine written to n ⌝ }
 {
-    if written {
-        return to + 1;
-    }
-    n
+    let past = to + 1;
+    if written { past } else { n }
 }
 
 // Carries out the lines of the input, one after another. Before the first opening the head describes no cache.
@@ -78,7 +77,7 @@ fn play(
         );
         let written = io::write_all(STDOUT_FILENO, &out[..done.size]);
         head = done.head;
-        from = next_line(written, from, to, n);
+        from = next_line(written, to, n);
     }
 }
 
