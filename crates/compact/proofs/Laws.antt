@@ -10,23 +10,24 @@ use lib.Dec.{ltb}
 use lib.ListN.{length, getD}
 use borrow.Author.Tests.{lt-ltb, le-ltb}
 use Rattle.head.specs.declared.Head.{Head}
+use Rattle.head.specs.Fresh.{recapped}
 use Rattle.model.specs.Slots.{Slots, upFrom, compacted}
 use Rattle.list.specs.Links.{Linked, Sound}
 use Rattle.list.specs.Promises.{Kept}
 use Rattle.list.proofs.Marks.{under?}
+use Rattle.list.proofs.Renumbered.{renumbered-linked}
 use Rattle.list.proofs.Unique.{agree}
 use Rattle.list.proofs.Outcome.{Left, Same, one-outcome}
 use Rattle.head.specs.Fields.{Fields, Reach}
-use Rattle.compact.specs.Compact.{Blank, AllBlank, Carried, Moved, Reordered, withCapacity, Stayed, Resized}
+use Rattle.compact.specs.Compact.{Blank, AllBlank, Carried, Moved, Reordered, Stayed, Resized}
 use Rattle.compact.proofs.Ascending.{up-in}
-use Rattle.compact.proofs.Resizing.{any-capacity}
 
 -- ---- slots
 
 module _ {h r : Head} {nx pv st nx' pv' st' : List ℕ} {f g : Fields} {d : ℕ} where
   -- where nothing moved, every description stands, of other slots in use too
   pub stayed-linked : Stayed h r nx pv st nx' pv' st' f g d → (o s t : List ℕ) → Linked h nx pv st o s t → Linked r nx' pv' st' o s t
-  stayed-linked w o s t l = rw (w .head, w .nexts, w .prevs, w .stacks) (any-capacity d l)
+  stayed-linked w o s t l = rw (w .head, w .nexts, w .prevs, w .stacks) (renumbered-linked d (h .weight) l)
 
   -- the slots after a resize are those of the model
   pub resized-slots : Resized h r nx pv st nx' pv' st' f g d → (s : Slots) → h .top .0 ≡ s .top → Linked h nx pv st (s .order) (s .free) []
@@ -130,7 +131,7 @@ module _ {h : Head} {nx pv st o s : List ℕ} {f : Fields} (l : Linked h nx pv s
     }
 
     pub shrunk-left : {d : ℕ} → Resized h r nx pv st nx' pv' st' f g d → d < h .capacity
-        → Left (withCapacity d h) r nx pv st nx' pv' st' (upFrom 0 (length o)) (upFrom (length o) (min (h .top .0) d - length o)) []
+        → Left (recapped d h) r nx pv st nx' pv' st' (upFrom 0 (length o)) (upFrom (length o) (min (h .top .0) d - length o)) []
     shrunk-left w lt = record {
       rest = record { kind = w .kind; capacity = w .capacity; slots = w .slots; weight = w .weight };
       next-tail = w .shrunk lt .next-tail;

@@ -8,6 +8,7 @@ use denote.Ref.{RefT, now}
 use denote.Triple.Both.{Both}
 use Rattle.head.specs.declared.Head.{Head}
 use Rattle.head.specs.Bounds.{mostSlots}
+use Rattle.head.specs.Fresh.{recapped}
 use Rattle.model.specs.Codes.{count}
 use Rattle.model.specs.Slots.{upFrom}
 use Rattle.list.specs.Order.{placeAt}
@@ -141,23 +142,9 @@ pub record Resizable (h : Head) (nx pv st : List ℕ) (f : Fields) (d : ℕ) : T
   pub reach : Reach (h .slots) f
   pub fits : h .live ≤ d
 
--- the head with another capacity
-abbrev pub withCapacity : ℕ → Head → Head
-withCapacity d h = record {
-  kind = h .kind;
-  capacity = d;
-  slots = h .slots;
-  live = h .live;
-  weight = h .weight;
-  front = h .front;
-  back = h .back;
-  top = h .top;
-  depth = h .depth;
-}
-
 -- no slot moved, and only the capacity changed
 pub record Stayed (h r : Head) (nx pv st nx' pv' st' : List ℕ) (f g : Fields) (d : ℕ) : Type 0 where
-  pub head : r ≡ withCapacity d h
+  pub head : r ≡ recapped d h
   pub nexts : nx' ≡ nx
   pub prevs : pv' ≡ pv
   pub stacks : st' ≡ st

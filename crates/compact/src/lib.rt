@@ -10,7 +10,7 @@ ghost use Rattle.head.specs.Bounds.{noneMark, mostSlots};
 ghost use lib.ListN.{length, take};
 ghost use Rattle.compact.specs.Plan.{walked, exchanged, exchanges};
 ghost use Rattle.compact.specs.Anew.{HeadOf, FrontOf, BackOf, NextOf, PrevOf, StackOf, Written};
-ghost use Rattle.compact.specs.Compact.{fields, fields₀, fields₁, withCapacity, Walkable, Numbered, Plannable, Planned, Exchangeable, AllExchangeable, Exchanged, Writable, LinksWritten, Compactable, Reordered, Resizable, Resized};
+ghost use Rattle.compact.specs.Compact.{fields, fields₀, fields₁, Walkable, Numbered, Plannable, Planned, Exchangeable, AllExchangeable, Exchanged, Writable, LinksWritten, Compactable, Reordered, Resizable, Resized};
 
 // No slot has a place.
 fn unplace(prev: &mut [u32], n: u32)
@@ -240,14 +240,6 @@ fn smaller(top: u32, capacity: u64) -> u32
     }
 }
 
-fn with_capacity(head: Head, capacity: u64) -> Head
-    ensures { λ r. ⌜ r ≡ withCapacity capacity head ⌝ }
-{
-    let mut h = head;
-    h.capacity = capacity;
-    h
-}
-
 // Sets the capacity, which holds all entries. Where it shrinks, the entry at place i of the order comes to slot i, and the slots
 // from there to the smaller of top and the capacity are the stack, ascending. Otherwise no slot moves.
 pub fn resize(
@@ -266,9 +258,9 @@ pub fn resize(
 {
     let before = head.capacity;
     if before <= capacity {
-        return with_capacity(head, capacity);
+        return head.with_capacity(capacity);
     }
     let top = Slot(smaller(head.top.0, capacity));
     let done = reorder(head, next, prev, stack, codes, stamps, values, weights, top);
-    with_capacity(done, capacity)
+    done.with_capacity(capacity)
 }

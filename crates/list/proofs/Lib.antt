@@ -1,4 +1,5 @@
 pub mod Marks
+pub mod Renumbered
 pub mod Stores
 pub mod Chain
 pub mod Places

@@ -19,6 +19,7 @@ use Rattle.model.proofs.Lawful.{move-lawful}
 use Rattle.list.specs.Links.{Linked}
 use Rattle.list.specs.Promises as list
 use Rattle.list.proofs.Filling.{fill-tail, fill-at}
+use Rattle.list.proofs.Renumbered.{renumbered-linked}
 use Rattle.table.specs.Sound.{Sound}
 use Rattle.table.specs.Acts.{cleared}
 use Rattle.table.proofs.Kept.{clear-sound, clear-tail}
@@ -26,7 +27,6 @@ use Rattle.head.specs.Fields.{Fields, Reach}
 use Rattle.store.specs.State.{entryIn, blank, Describes}
 use Rattle.store.specs.Acts.{Spacious, Emptied}
 use Rattle.store.specs.Caches.{after, capped}
-use Rattle.store.proofs.Exchanged.{renumbered-linked}
 
 -- no slot in use, every field 0, every cell empty: a cache just opened
 pub empty-described : (k : Kind) (c n : ℕ) (r : Head) (g : Fields) (nx pv st cells : List ℕ) → r .kind ≡ kindNumber k → r .capacity ≡ c → r .slots ≡ n

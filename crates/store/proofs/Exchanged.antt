@@ -10,7 +10,7 @@ use lib.ListN.{getD, length-append}
 use borrow.Author.Tests.{eqb-true, eqb-false, eq-eqb, ne-eqb}
 use Rattle.head.specs.declared.Head.{Head}
 use Rattle.head.specs.declared.Row.{Row}
-use Rattle.head.specs.Fresh.{renumbered, reweighed}
+use Rattle.head.specs.Fresh.{reweighed}
 use Rattle.crc.specs.Home.{homeOf}
 use Rattle.crc.proofs.Homes.{home-lt}
 use Rattle.model.specs.Lists.{without, only, butLast}
@@ -28,6 +28,7 @@ use Rattle.model.proofs.Lawful.{move-lawful, Takes}
 use Rattle.list.specs.Links.{Linked}
 use Rattle.list.specs.Promises as list
 use Rattle.list.specs.declared.Taken.{Taken}
+use Rattle.list.proofs.Renumbered.{renumbered-linked}
 use Rattle.table.specs.Orders.{Without}
 use Rattle.table.specs.Sound.{Sound}
 use Rattle.table.specs.Acts as table
@@ -39,23 +40,6 @@ use Rattle.store.specs.Caches.{after, added}
 use Rattle.store.proofs.Gathered.{gathering, gather-agree}
 use Rattle.store.proofs.Members.{counted-member, member-counted}
 use Rattle.store.proofs.Described.{slot-once, order-length, below-one, below-in}
-
--- the links see neither capacity nor weight
-pub renumbered-linked : {h : Head} {nx pv st order free others : List ℕ} (n w : ℕ) → Linked h nx pv st order free others
-    → Linked (renumbered n w h) nx pv st order free others
-renumbered-linked n w l = record {
-  long = record { small = l .long .small; nexts = l .long .nexts; prevs = l .long .prevs; stacks = l .long .stacks };
-  live = l .live;
-  depth = l .depth;
-  size = l .size;
-  fit = l .fit;
-  each = l .each;
-  front = l .front;
-  back = l .back;
-  nexts = l .nexts;
-  prevs = l .prevs;
-  stacks = l .stacks;
-}
 
 same? : (u s : ℕ) → (u ≡ s) ⊎ (u ≡ s → ⊥)
 same? u s = split (eqb u s) (λ t. inl (eqb-true u s t)) (λ t. inr (eqb-false u s t))
