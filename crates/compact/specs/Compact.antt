@@ -18,16 +18,19 @@ use Rattle.compact.specs.Plan.{walked, partners, exchanges, Fit}
 use Rattle.compact.specs.Anew.{NextOf, PrevOf, StackOf, Written}
 use Rattle.head.specs.Fields.{Fields, Reach}
 
+-- four lent lists as they stand
 abbrev pub fields : RefT (List ℕ) → RefT (List ℕ) → RefT (List ℕ) → RefT (List ℕ) → Fields
 fields c s v w = record { codes = now c; stamps = now s; values = now v; weights = now w }
 
+-- a lent list before and after a call
 abbrev pub Over : Type 0
 Over = Both (RefT (List ℕ)) (RefT (List ℕ))
 
--- as the call found them, and as it left them
+-- as the call found them
 abbrev pub fields₀ : Over → Over → Over → Over → Fields
 fields₀ c s v w = fields (c .entry) (s .entry) (v .entry) (w .entry)
 
+-- as the call left them
 abbrev pub fields₁ : Over → Over → Over → Over → Fields
 fields₁ c s v w = fields (c .exit) (s .exit) (v .exit) (w .exit)
 
@@ -42,6 +45,7 @@ pub record Exchanged (ss : List ℕ) (f g : Fields) : Type 0 where
 abbrev pub Blank : ℕ → List ℕ → List ℕ → Type 0
 Blank n order f = (u : ℕ) → u < n → count u order ≡ 0 → getD f u 0 ≡ 0
 
+-- so it is in all four lists
 pub record AllBlank (n : ℕ) (order : List ℕ) (f : Fields) : Type 0 where
   pub codes : Blank n order (f .codes)
   pub stamps : Blank n order (f .stamps)
@@ -54,6 +58,7 @@ pub record Carried (n : ℕ) (order f g : List ℕ) : Type 0 where
   pub blanks : Blank n order f → (u : ℕ) → length order ≤ u → u < n → getD g u 0 ≡ 0
   pub tail : Tail n f g
 
+-- so it is in all four lists
 pub record Moved (n : ℕ) (order : List ℕ) (f g : Fields) : Type 0 where
   pub codes : Carried n order (f .codes) (g .codes)
   pub stamps : Carried n order (f .stamps) (g .stamps)
@@ -95,6 +100,7 @@ pub record Exchangeable (live : ℕ) (ps l : List ℕ) : Type 0 where
   pub row : live ≤ length ps
   pub each : (j : ℕ) → j < live → getD ps j 0 < length l
 
+-- so it is in all four lists
 pub record AllExchangeable (live : ℕ) (ps : List ℕ) (f : Fields) : Type 0 where
   pub codes : Exchangeable live ps (f .codes)
   pub stamps : Exchangeable live ps (f .stamps)
@@ -110,6 +116,7 @@ pub record Writable (n live t : ℕ) (nx pv st : List ℕ) : Type 0 where
   pub prevs : n ≤ length pv
   pub stacks : n ≤ length st
 
+-- the links of n slots are those of `live` entries in the slots 0, 1 and so on, with the slots from there to t on the stack
 pub record LinksWritten (n live t : ℕ) (nx pv st nx' pv' st' : List ℕ) : Type 0 where
   pub nexts : Written n (NextOf live) nx nx'
   pub prevs : Written n (PrevOf live t) pv pv'
@@ -131,6 +138,7 @@ pub record Compacted (h r : Head) (nx pv st nx' pv' st' : List ℕ) (f g : Field
   pub linked : (order free : List ℕ) → Linked h nx pv st order free [] → Linked r nx' pv' st' (upFrom 0 (length order)) (upFrom (length order) (t - length order)) []
   pub moved : (order free : List ℕ) → Linked h nx pv st order free [] → Moved (h .slots) order f g
 
+-- compacted, and the head's other numbers are as they were
 pub record Reordered (h r : Head) (nx pv st nx' pv' st' : List ℕ) (f g : Fields) (t : ℕ) : Type 0 where
   pub rest : Rest h r
   pub live : r .live ≡ h .live
@@ -150,6 +158,7 @@ pub record Stayed (h r : Head) (nx pv st nx' pv' st' : List ℕ) (f g : Fields) 
   pub stacks : st' ≡ st
   pub fields : g ≡ f
 
+-- the capacity is d: compacted where that is less, and no slot moved where it is not
 pub record Resized (h r : Head) (nx pv st nx' pv' st' : List ℕ) (f g : Fields) (d : ℕ) : Type 0 where
   pub kind : r .kind ≡ h .kind
   pub capacity : r .capacity ≡ d

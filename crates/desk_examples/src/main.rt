@@ -1,4 +1,4 @@
-// The script program on the examples A to M of document 01.
+// The script program on the examples A to M and on the sample day of examples/.
 fn main() {
     play::desk();
 }
