@@ -1,291 +1,173 @@
-// Drives the list and a plain array through the same operations, compares the two after each, and writes how many agreed.
+// Drives the list and plain arrays through the same operations, compares the two after each, and writes how many agreed.
 use head::Head;
 use head::Slot;
-use libc::STDOUT_FILENO;
-
-const SLOTS: u32 = 16;
+use plain::draw;
+use plain::less;
+use plain::line;
+use plain::line::Order;
+use plain::more;
+use plain::narrow;
+use plain::pick;
+use plain::say;
 
 // What a turn does. The numbers are places of the tally too; AGREED is the one behind them.
-const PUSH: u32 = 0;
+const PUSH: u64 = 0;
 
-const REMOVE: u32 = 1;
+const REMOVE: u64 = 1;
 
-const MOVE: u32 = 2;
+const MOVE: u64 = 2;
 
-const EVICT: u32 = 3;
+const EVICT: u64 = 3;
 
-const CLEAR: u32 = 4;
+const CLEAR: u64 = 4;
 
-const AGREED: u32 = 5;
+const AGREED: u64 = 5;
 
-// The numbers of the plain side: how long its line and its pile are, and the first slot never used.
-pub struct Plain {
-    pub line: u32,
-    pub pile: u32,
-    pub top: u32,
+// The list: its head and its links.
+pub struct Links {
+    pub head: Head,
+    pub next: [u32; 16],
+    pub prev: [u32; 16],
+    pub stack: [u32; 16],
 }
 
 // What is carried from turn to turn.
-pub struct World {
-    pub head: Head,
-    pub plain: Plain,
-    pub seed: u32,
+struct World {
+    links: Links,
+    order: Order,
+    seed: u64,
+    tally: [u64; 6],
 }
 
-// The number at a place, 0 past the end.
-fn get(list: &[u32], i: u32) -> u32 {
-    let j = i as usize;
-    if j < list.len() { list[j] } else { 0 }
-}
-
-// Stores at a place, nothing past the end.
-fn set(list: &mut [u32], i: u32, v: u32) {
-    let j = i as usize;
-    if j < list.len() {
-        list[j] = v;
+// The links of a head that holds nothing.
+pub fn bare(head: Head) -> Links {
+    Links {
+        head,
+        next: [Head::UNUSED; 16],
+        prev: [Head::NONE; 16],
+        stack: [Head::NONE; 16],
     }
 }
 
-// Counts one more at a place.
-fn bump(list: &mut [u32], i: u32) {
-    let v = get(list, i);
-    if v < 4294967295 {
-        set(list, i, v + 1);
+// ---- the list: each operation on links that are inspected first. Where they are not sound, or it does not fit, nothing is done.
+
+pub fn push(l: Links) -> Links {
+    let head = l.head;
+    let mut next = l.next;
+    let mut prev = l.prev;
+    let mut stack = l.stack;
+    if !list::inspect_links(head, &next, &prev, &stack) {
+        return l;
+    }
+    if head.slots <= head.live {
+        return l;
+    }
+    let t = list::push_front(head, &mut next, &mut prev, &mut stack);
+    let h = t.head;
+    Links {
+        head: h,
+        next,
+        prev,
+        stack,
     }
 }
 
-// ---- the plain side: a line of slots, front first, kept by shifting, and a pile of free ones
-
-// The first i of the line move one place back.
-fn shift_back(line: &mut [u32], i: u32) {
-    let mut j = i;
-    while 0 < j {
-        let v = get(line, j - 1);
-        set(line, j, v);
-        j -= 1;
+pub fn remove(l: Links, slot: u64) -> Links {
+    let head = l.head;
+    let mut next = l.next;
+    let mut prev = l.prev;
+    let mut stack = l.stack;
+    let s = narrow(slot);
+    if !list::inspect_links(head, &next, &prev, &stack) {
+        return l;
+    }
+    if head.slots <= s {
+        return l;
+    }
+    if list::at(&next, s) == Head::UNUSED {
+        return l;
+    }
+    let h = list::remove(head, &mut next, &mut prev, &mut stack, Slot(s));
+    Links {
+        head: h,
+        next,
+        prev,
+        stack,
     }
 }
 
-// Those behind place i, of n, move one place to the front.
-fn shift_front(line: &mut [u32], i: u32, n: u32) {
-    let mut j = i;
-    while j < n {
-        let k = j + 1;
-        let v = get(line, k);
-        set(line, j, v);
-        j = k;
+fn raise(l: Links, slot: u64) -> Links {
+    let head = l.head;
+    let mut next = l.next;
+    let mut prev = l.prev;
+    let stack = l.stack;
+    let s = narrow(slot);
+    if !list::inspect_links(head, &next, &prev, &stack) {
+        return l;
+    }
+    if head.slots <= s {
+        return l;
+    }
+    if list::at(&next, s) == Head::UNUSED {
+        return l;
+    }
+    let h = list::move_front(head, &mut next, &mut prev, Slot(s));
+    Links {
+        head: h,
+        next,
+        prev,
+        stack,
     }
 }
 
-fn plain_push(p: Plain, line: &mut [u32], pile: &mut [u32]) -> Plain {
-    let n = p.line;
-    let m = p.pile;
-    let t = p.top;
-    if SLOTS <= n {
-        return p;
+pub fn evict(l: Links, leave: u64) -> Links {
+    let head = l.head;
+    let mut next = l.next;
+    let mut prev = l.prev;
+    let mut stack = l.stack;
+    let k = narrow(leave);
+    if !list::inspect_links(head, &next, &prev, &stack) {
+        return l;
     }
-    if m == 0 {
-        if SLOTS <= t {
-            return p;
-        }
-        shift_back(line, n);
-        set(line, 0, t);
-        return Plain {
-            line: n + 1,
-            pile: 0,
-            top: t + 1,
-        };
+    if head.live < k {
+        return l;
     }
-    let s = get(pile, m - 1);
-    shift_back(line, n);
-    set(line, 0, s);
-    Plain {
-        line: n + 1,
-        pile: m - 1,
-        top: t,
+    let h = list::evict(head, &mut next, &mut prev, &mut stack, k);
+    Links {
+        head: h,
+        next,
+        prev,
+        stack,
     }
 }
 
-fn plain_remove(p: Plain, line: &mut [u32], pile: &mut [u32], place: u32) -> Plain {
-    let n = p.line;
-    let m = p.pile;
-    if n <= place {
-        return p;
+fn clear(l: Links) -> Links {
+    let head = l.head;
+    let mut next = l.next;
+    let mut prev = l.prev;
+    let mut stack = l.stack;
+    if !list::inspect_links(head, &next, &prev, &stack) {
+        return l;
     }
-    if SLOTS <= m {
-        return p;
+    let h = list::clear(head, &mut next, &mut prev, &mut stack);
+    Links {
+        head: h,
+        next,
+        prev,
+        stack,
     }
-    let s = get(line, place);
-    shift_front(line, place, n);
-    set(pile, m, s);
-    Plain {
-        line: n - 1,
-        pile: m + 1,
-        top: p.top,
-    }
-}
-
-fn plain_move(line: &mut [u32], place: u32) {
-    let s = get(line, place);
-    shift_back(line, place);
-    set(line, 0, s);
-}
-
-fn plain_evict(p: Plain, line: &mut [u32], pile: &mut [u32], k: u32) -> Plain {
-    let mut r = p;
-    let mut left = k;
-    while 0 < left {
-        let n = r.line;
-        let last = if n == 0 { 0 } else { n - 1 };
-        r = plain_remove(r, line, pile, last);
-        left -= 1;
-    }
-    r
-}
-
-fn plain_act(p: Plain, line: &mut [u32], pile: &mut [u32], kind: u32, place: u32, k: u32) -> Plain {
-    if kind == PUSH {
-        return plain_push(p, line, pile);
-    }
-    if kind == REMOVE {
-        return plain_remove(p, line, pile, place);
-    }
-    if kind == EVICT {
-        return plain_evict(p, line, pile, k);
-    }
-    if kind == MOVE {
-        plain_move(line, place);
-        return p;
-    }
-    Plain {
-        line: 0,
-        pile: 0,
-        top: 0,
-    }
-}
-
-// ---- the list
-
-// One operation on links that are inspected first: where they are not sound, or the operation does not fit, nothing is done.
-fn act(
-    head: Head,
-    next: &mut [u32],
-    prev: &mut [u32],
-    stack: &mut [u32],
-    kind: u32,
-    slot: Slot,
-    k: u32,
-) -> Head {
-    if !list::inspect_links(head, next, prev, stack) {
-        return head;
-    }
-    if kind == PUSH {
-        if head.slots <= head.live {
-            return head;
-        }
-        let t = list::push_front(head, next, prev, stack);
-        return t.head;
-    }
-    if kind == EVICT {
-        if head.live < k {
-            return head;
-        }
-        return list::evict(head, next, prev, stack, k);
-    }
-    if kind == CLEAR {
-        return list::clear(head, next, prev, stack);
-    }
-    let i = slot.0;
-    if head.slots <= i {
-        return head;
-    }
-    if list::at(next, i) == Head::UNUSED {
-        return head;
-    }
-    if kind == REMOVE {
-        return list::remove(head, next, prev, stack, slot);
-    }
-    list::move_front(head, next, prev, slot)
-}
-
-// ---- the two compared
-
-// Whether a walk by the links meets the line, slot by slot, forwards and back.
-fn line_agrees(head: Head, next: &[u32], prev: &[u32], line: &[u32], n: u32) -> bool {
-    let mut cur = head.front.0;
-    let mut last = Head::NONE;
-    let mut i: u32 = 0;
-    while i < n {
-        if cur != get(line, i) {
-            return false;
-        }
-        if get(prev, cur) != last {
-            return false;
-        }
-        last = cur;
-        cur = get(next, cur);
-        i += 1;
-    }
-    if cur != Head::NONE {
-        return false;
-    }
-    last == head.back.0
-}
-
-// Whether the stack holds the pile, and none past it.
-fn pile_agrees(stack: &[u32], pile: &[u32], m: u32) -> bool {
-    let mut i: u32 = 0;
-    while i < SLOTS {
-        if get(stack, i) != list::choose(m, i, get(pile, i), Head::NONE) {
-            return false;
-        }
-        i += 1;
-    }
-    true
-}
-
-fn agrees(
-    head: Head,
-    next: &[u32],
-    prev: &[u32],
-    stack: &[u32],
-    p: Plain,
-    line: &[u32],
-    pile: &[u32],
-) -> bool {
-    if head.live != p.line {
-        return false;
-    }
-    if head.depth.0 != p.pile {
-        return false;
-    }
-    if head.top.0 != p.top {
-        return false;
-    }
-    if !line_agrees(head, next, prev, line, p.line) {
-        return false;
-    }
-    pile_agrees(stack, pile, p.pile)
 }
 
 // ---- the turns
 
-// The next of a run of numbers below 65536 that takes each of them once.
-fn draw(x: u32) -> u32 {
-    ((x % 65536) * 25173 + 13849) % 65536
-}
-
 // What a turn does on n slots, by two draws.
-fn pick(r: u32, q: u32, n: u32) -> u32 {
+fn chosen(r: u64, q: u64, n: u64) -> u64 {
     let a = (r / 2048) % 32;
     if n == 0 {
         return PUSH;
     }
     if a < 15 {
-        if n < SLOTS {
-            return PUSH;
-        }
-        return EVICT;
+        return pick(n < 16, PUSH, EVICT);
     }
     if a < 21 {
         return REMOVE;
@@ -296,125 +178,126 @@ fn pick(r: u32, q: u32, n: u32) -> u32 {
     if a < 31 {
         return EVICT;
     }
-    if q < 16384 { CLEAR } else { EVICT }
+    pick(q < 16384, CLEAR, EVICT)
 }
 
-// A turn's operation, the place of the line that it is for, how many leave where some are evicted, and the draw to go on from.
-pub struct Plan {
-    pub kind: u32,
-    pub place: u32,
-    pub leave: u32,
-    pub seed: u32,
+// A turn's operation, the place of the line that it is for, and how many leave where some are evicted.
+struct Plan {
+    kind: u64,
+    place: u64,
+    leave: u64,
 }
 
-fn planned(seed: u32, n: u32) -> Plan {
-    let r = draw(seed);
-    let q = draw(r);
-    let kind = pick(r, q, n);
+fn planned(r: u64, q: u64, n: u64) -> Plan {
     let some = 1 + (q / 256) % 3;
-    let leave = list::choose(n, some, some, n);
-    if n == 0 {
-        return Plan {
-            kind,
-            place: 0,
-            leave,
-            seed: q,
-        };
-    }
     Plan {
-        kind,
-        place: (q / 16) % n,
-        leave,
-        seed: q,
+        kind: chosen(r, q, n),
+        place: if n == 0 { 0 } else { (q / 16) % n },
+        leave: pick(some < n, some, n),
     }
+}
+
+fn act(l: Links, t: Plan, slot: u64) -> Links {
+    let kind = t.kind;
+    if kind == PUSH {
+        return push(l);
+    }
+    if kind == REMOVE {
+        return remove(l, slot);
+    }
+    if kind == MOVE {
+        return raise(l, slot);
+    }
+    if kind == EVICT {
+        return evict(l, t.leave);
+    }
+    clear(l)
+}
+
+fn plain_act(o: Order, t: Plan) -> Order {
+    let kind = t.kind;
+    if kind == PUSH {
+        return line::push(o, 0);
+    }
+    if kind == REMOVE {
+        return line::remove(o, t.place);
+    }
+    if kind == MOVE {
+        return line::raise(o, t.place);
+    }
+    if kind == EVICT {
+        return line::evict(o, t.leave);
+    }
+    line::empty()
+}
+
+// Whether the two agree.
+pub fn agrees(l: Links, o: Order) -> bool {
+    let head = l.head;
+    let next = l.next;
+    let prev = l.prev;
+    let stack = l.stack;
+    line::agrees(o, head, &next, &prev, &stack)
 }
 
 // Counts a turn, and whether the two agreed after it.
-fn note(tally: &mut [u32], kind: u32, agreed: bool) {
-    bump(tally, kind);
+fn noted(tally: [u64; 6], kind: u64, agreed: bool) -> [u64; 6] {
+    let mut out = tally;
+    let i = kind as usize;
+    if i < 5 {
+        out[i] = more(out[i]);
+    }
     if agreed {
-        bump(tally, AGREED);
+        out[5] = more(out[5]);
     }
+    out
 }
 
-fn turn(
-    w: World,
-    next: &mut [u32],
-    prev: &mut [u32],
-    stack: &mut [u32],
-    line: &mut [u32],
-    pile: &mut [u32],
-    tally: &mut [u32],
-) -> World {
-    let h = w.head;
-    let p = w.plain;
-    let t = planned(w.seed, p.line);
-    let slot = Slot(get(line, t.place));
-    let h1 = act(h, next, prev, stack, t.kind, slot, t.leave);
-    let p1 = plain_act(p, line, pile, t.kind, t.place, t.leave);
-    let agreed = agrees(h1, next, prev, stack, p1, line, pile);
-    note(tally, t.kind, agreed);
+fn turn(w: World) -> World {
+    let l = w.links;
+    let o = w.order;
+    let slots = o.slots;
+    let tally = w.tally;
+    let r = draw(w.seed);
+    let q = draw(r);
+    let t = planned(r, q, o.live);
+    let l1 = act(l, t, line::nth(&slots, t.place));
+    let o1 = plain_act(o, t);
+    let agreed = agrees(l1, o1);
+    let counts = noted(tally, t.kind, agreed);
     World {
-        head: h1,
-        plain: p1,
-        seed: t.seed,
+        links: l1,
+        order: o1,
+        seed: q,
+        tally: counts,
     }
 }
 
-fn run(
-    turns: u32,
-    next: &mut [u32],
-    prev: &mut [u32],
-    stack: &mut [u32],
-    line: &mut [u32],
-    pile: &mut [u32],
-    tally: &mut [u32],
-) {
-    let h = Head::fresh(Head::PLAIN, 16, SLOTS);
-    let p = Plain {
-        line: 0,
-        pile: 0,
-        top: 0,
-    };
+// Fresh lists and the turns: how many of each kind there were, and after how many the two agreed.
+fn run(turns: u64) -> [u64; 6] {
+    let l = bare(Head::fresh(Head::PLAIN, 16, 16));
+    let o = line::empty();
     let mut w = World {
-        head: h,
-        plain: p,
+        links: l,
+        order: o,
         seed: 1,
+        tally: [0u64; 6],
     };
     let mut left = turns;
     while 0 < left {
-        w = turn(w, next, prev, stack, line, pile, tally);
+        w = turn(w);
         left -= 1;
     }
+    w.tally
 }
 
-fn say(name: &[u8], n: u32) {
-    io::write_all(STDOUT_FILENO, name);
-    io::print_decimal(STDOUT_FILENO, n as u64);
-    io::write_all(STDOUT_FILENO, b"\n");
-}
-
-// The whole: fresh lists, the turns, and what they came to.
-pub fn drive(turns: u32) {
-    let mut next = [Head::UNUSED; 16];
-    let mut prev = [Head::NONE; 16];
-    let mut stack = [Head::NONE; 16];
-    let mut line = [0u32; 16];
-    let mut pile = [0u32; 16];
-    let mut tally = [0u32; 6];
-    run(
-        turns,
-        &mut next,
-        &mut prev,
-        &mut stack,
-        &mut line,
-        &mut pile,
-        &mut tally,
-    );
-    say(b"push ", tally[0]);
-    say(b"remove ", tally[1]);
-    say(b"move ", tally[2]);
-    say(b"evict ", tally[3]);
-    say(b"clear ", tally[4]);
-    say(b"agreed ", tally[5]);
+// The whole, and what it came to.
+pub fn drive(turns: u64) {
+    let tally = run(turns);
+    say(b"push", tally[0]);
+    say(b"remove", tally[1]);
+    say(b"move", tally[2]);
+    say(b"evict", tally[3]);
+    say(b"clear", tally[4]);
+    say(b"agreed", tally[5]);
 }
