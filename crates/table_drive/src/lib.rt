@@ -3,7 +3,9 @@
 use head::Code;
 use head::Head;
 use head::Slot;
-use libc::STDOUT_FILENO;
+use plain::more;
+use plain::say;
+use plain::shaken;
 use table::Search;
 ghost use mathlib.Core.Path.{_≡_};
 ghost use mathlib.Core.Bool.{true};
@@ -106,17 +108,49 @@ fn scan(codes: &[u64], next: &[u32], front: u32, live: u32, code: u64) -> u32 {
     Head::NONE
 }
 
-// What a round says: BAD where something differs or the table is not sound.
-const BAD: u8 = 0;
+// The table, and the links that it describes.
+struct Table {
+    cells: [u32; 32],
+    codes: [u64; 16],
+    next: [u32; 16],
+    front: u32,
+    live: u32,
+}
 
-const FOUND: u8 = 1;
+// What a search or an act came to, as a place of the counts; WRONG where something differs or the table is not sound.
+const FOUND: u64 = 0;
 
-const ABSENT: u8 = 2;
+const ABSENT: u64 = 1;
+
+const INSERTED: u64 = 2;
+
+const REMOVED: u64 = 3;
+
+const CLEARED: u64 = 4;
+
+const REBUILT: u64 = 5;
+
+const WRONG: u64 = 6;
+
+const NOTHING: u64 = 7;
+
+fn agree(got: u32, want: u32, count: usize, live: u32, what: u64) -> u64 {
+    if got != want {
+        return WRONG;
+    }
+    if count == 0 {
+        return WRONG;
+    }
+    if wide(live) < count - 1 {
+        return WRONG;
+    }
+    what
+}
 
 // A search, held to the scan and to live + 1 cells.
-fn search(cells: &[u32], codes: &[u64], next: &[u32], front: u32, live: u32, code: u64) -> u8 {
+fn search(cells: &[u32], codes: &[u64], next: &[u32], front: u32, live: u32, code: u64) -> u64 {
     if !sound(cells, codes, next, front, live) {
-        return BAD;
+        return WRONG;
     }
     let want = scan(codes, next, front, live, code);
     match table::look(cells, codes, N, Code(code)) {
@@ -129,37 +163,94 @@ fn search(cells: &[u32], codes: &[u64], next: &[u32], front: u32, live: u32, cod
     }
 }
 
-fn agree(got: u32, want: u32, count: usize, live: u32, what: u8) -> u8 {
-    if got != want {
-        return BAD;
-    }
-    if count == 0 {
-        return BAD;
-    }
-    if wide(live) < count - 1 {
-        return BAD;
-    }
-    what
+fn searched(t: Table, code: u64) -> u64 {
+    let cells = t.cells;
+    let codes = t.codes;
+    let next = t.next;
+    search(&cells, &codes, &next, t.front, t.live, code)
+}
+
+// ---- the acts: each on a table that is tested first. What it came to, and the table that it left.
+
+struct Done {
+    table: Table,
+    what: u64,
+}
+
+fn unchanged(t: Table, what: u64) -> Done {
+    Done { table: t, what }
 }
 
 // Puts a slot in the table.
-fn put(cells: &mut [u32], codes: &[u64], next: &[u32], front: u32, live: u32, slot: u32) -> bool {
+fn put(
+    cells: &mut [u32; 32],
+    codes: &[u64; 16],
+    next: &[u32; 16],
+    front: u32,
+    live: u32,
+    slot: u32,
+) -> bool {
     if !sound(cells, codes, next, front, live) {
         return false;
     }
     let s = wide(slot);
-    if codes.len() <= s {
+    if 16 <= s {
         return false;
     }
     table::insert(cells, codes, N, Slot(slot));
     true
 }
 
+// The first slot that is not on the links, or 16.
+fn free_slot(next: &[u32; 16], front: u32, live: u32) -> usize {
+    let mut s: usize = 0;
+    while s < N {
+        if absent(next, front, live, s as u32) {
+            return s;
+        }
+        s += 1;
+    }
+    N
+}
+
+// A slot with this code comes in front of the links.
+fn insert_one(t: Table, code: u64) -> Done {
+    let front = t.front;
+    let live = t.live;
+    let mut cells = t.cells;
+    let mut codes = t.codes;
+    let mut next = t.next;
+    if N <= wide(live) {
+        return unchanged(t, NOTHING);
+    }
+    let s = free_slot(&next, front, live);
+    if N <= s {
+        return unchanged(t, WRONG);
+    }
+    let slot = s as u32;
+    codes[s] = code;
+    if !put(&mut cells, &codes, &next, front, live, slot) {
+        return unchanged(t, WRONG);
+    }
+    next[s] = front;
+    let table = Table {
+        cells,
+        codes,
+        next,
+        front: slot,
+        live: live + 1,
+    };
+    Done {
+        table,
+        what: INSERTED,
+    }
+}
+
 // Takes the slot that has a code out of the table, by its cell or by its number, and answers it.
 fn take(
-    cells: &mut [u32],
-    codes: &[u64],
-    next: &[u32],
+    cells: &mut [u32; 32],
+    codes: &[u64; 16],
+    next: &[u32; 16],
     front: u32,
     live: u32,
     code: u64,
@@ -185,8 +276,85 @@ fn take(
     }
 }
 
+fn link_of(next: &[u32; 16], slot: u32) -> u32 {
+    let s = wide(slot);
+    if s < 16 { next[s] } else { Head::NONE }
+}
+
+// The links without a slot behind the front, to which another follows.
+fn unlinked(next: [u32; 16], front: u32, live: u32, slot: u32, to: u32) -> [u32; 16] {
+    let mut out = next;
+    let mut at = front;
+    let mut i: u32 = 0;
+    while i < live {
+        let s = wide(at);
+        let after = link_of(&next, at);
+        if after == slot {
+            if s < 16 {
+                out[s] = to;
+            }
+            return out;
+        }
+        at = after;
+        i += 1;
+    }
+    out
+}
+
+// The slot that has a code leaves the links.
+fn remove_one(t: Table, code: u64, by_cell: bool) -> Done {
+    let front = t.front;
+    let live = t.live;
+    let mut cells = t.cells;
+    let codes = t.codes;
+    let next = t.next;
+    let slot = take(&mut cells, &codes, &next, front, live, code, by_cell);
+    if slot == Head::NONE {
+        return unchanged(t, WRONG);
+    }
+    if live == 0 {
+        return unchanged(t, WRONG);
+    }
+    let to = link_of(&next, slot);
+    let links = unlinked(next, front, live, slot, to);
+    let table = Table {
+        cells,
+        codes,
+        next: links,
+        front: if front == slot { to } else { front },
+        live: live - 1,
+    };
+    Done {
+        table,
+        what: REMOVED,
+    }
+}
+
+fn wipe(cells: &mut [u32; 32]) {
+    table::clear(cells, N);
+}
+
+fn clear_all(t: Table) -> Done {
+    let mut cells = t.cells;
+    wipe(&mut cells);
+    let mut n = t;
+    n.cells = cells;
+    n.front = Head::NONE;
+    n.live = 0;
+    Done {
+        table: n,
+        what: CLEARED,
+    }
+}
+
 // Makes the cells anew from the links.
-fn renew(cells: &mut [u32], codes: &[u64], next: &[u32], front: u32, live: u32) -> bool {
+fn renew(
+    cells: &mut [u32; 32],
+    codes: &[u64; 16],
+    next: &[u32; 16],
+    front: u32,
+    live: u32,
+) -> bool {
     if !sound(cells, codes, next, front, live) {
         return false;
     }
@@ -194,239 +362,127 @@ fn renew(cells: &mut [u32], codes: &[u64], next: &[u32], front: u32, live: u32) 
     true
 }
 
-// Makes the cells empty.
-fn wipe(cells: &mut [u32]) -> bool {
-    if cells.len() < 2 * N {
-        return false;
+fn renew_all(t: Table) -> Done {
+    let mut cells = t.cells;
+    let codes = t.codes;
+    let next = t.next;
+    if !renew(&mut cells, &codes, &next, t.front, t.live) {
+        return unchanged(t, WRONG);
     }
-    table::clear(cells, N);
-    true
+    let mut n = t;
+    n.cells = cells;
+    Done {
+        table: n,
+        what: REBUILT,
+    }
 }
 
-// The first slot that is not on the links, or 16.
-fn free_slot(next: &[u32], front: u32, live: u32) -> usize {
-    let mut s: usize = 0;
-    while s < N {
-        if absent(next, front, live, s as u32) {
-            return s;
+// What follows a search, by a draw below 128.
+fn act(t: Table, said: u64, code: u64, draw: u64) -> Done {
+    if said == WRONG {
+        return unchanged(t, NOTHING);
+    }
+    if said == FOUND {
+        if draw < 40 {
+            return remove_one(t, code, draw < 20);
         }
-        s += 1;
-    }
-    N
-}
-
-fn set_code(codes: &mut [u64], s: usize, code: u64) {
-    if s < codes.len() {
-        codes[s] = code;
-    }
-}
-
-fn set_link(next: &mut [u32], s: usize, to: u32) {
-    if s < next.len() {
-        next[s] = to;
-    }
-}
-
-fn link_of(next: &[u32], s: usize) -> u32 {
-    if s < next.len() { next[s] } else { Head::NONE }
-}
-
-// Takes a slot off the links, and answers the front.
-fn unlink(next: &mut [u32], front: u32, live: u32, slot: u32) -> u32 {
-    let to = link_of(next, wide(slot));
-    if front == slot {
-        return to;
-    }
-    let mut at = front;
-    let mut i: u32 = 0;
-    while i < live {
-        let after = link_of(next, wide(at));
-        if after == slot {
-            set_link(next, wide(at), to);
-            return front;
+    } else {
+        if draw < 80 {
+            return insert_one(t, code);
         }
-        at = after;
-        i += 1;
     }
-    front
+    if draw < 112 {
+        return unchanged(t, NOTHING);
+    }
+    if draw == 127 {
+        return clear_all(t);
+    }
+    renew_all(t)
 }
 
-// How many acts of a kind there were, after each of which the next test found the table sound; and the links.
+// ---- the rounds
+
 struct Run {
-    front: u32,
-    live: u32,
+    table: Table,
     seed: u64,
-    found: u64,
-    absent: u64,
-    inserted: u64,
-    removed: u64,
-    cleared: u64,
-    rebuilt: u64,
-    wrong: u64,
+    counts: [u64; 8],
 }
 
-fn more(x: u64) -> u64 {
-    std::num::wrapping_add_u64(x, 1)
-}
-
-fn wronged(r: Run) -> Run {
-    let mut n = r;
-    n.wrong = more(r.wrong);
-    n
-}
-
-// The next number of a generator (xorshift).
-fn shaken(seed: u64) -> u64 {
-    let a = seed ^ (seed << 13);
-    let b = a ^ (a >> 7);
-    b ^ (b << 17)
-}
-
-fn insert_one(cells: &mut [u32], codes: &mut [u64], next: &mut [u32], r: Run, code: u64) -> Run {
-    let front = r.front;
-    let live = r.live;
-    if N <= wide(live) {
-        return r;
+fn counted(counts: [u64; 8], what: u64) -> [u64; 8] {
+    let mut out = counts;
+    let i = what as usize;
+    if i < 8 {
+        out[i] = more(out[i]);
     }
-    let s = free_slot(next, front, live);
-    if N <= s {
-        return wronged(r);
-    }
-    set_code(codes, s, code);
-    if !put(cells, codes, next, front, live, s as u32) {
-        return wronged(r);
-    }
-    set_link(next, s, front);
-    let mut n = r;
-    n.front = s as u32;
-    n.live = live + 1;
-    n.inserted = more(r.inserted);
-    n
-}
-
-fn remove_one(
-    cells: &mut [u32],
-    codes: &[u64],
-    next: &mut [u32],
-    r: Run,
-    code: u64,
-    by_cell: bool,
-) -> Run {
-    let front = r.front;
-    let live = r.live;
-    let slot = take(cells, codes, next, front, live, code, by_cell);
-    if slot == Head::NONE {
-        return wronged(r);
-    }
-    if live == 0 {
-        return wronged(r);
-    }
-    let mut n = r;
-    n.front = unlink(next, front, live, slot);
-    n.live = live - 1;
-    n.removed = more(r.removed);
-    n
-}
-
-fn clear_all(cells: &mut [u32], r: Run) -> Run {
-    if !wipe(cells) {
-        return wronged(r);
-    }
-    let mut n = r;
-    n.front = Head::NONE;
-    n.live = 0;
-    n.cleared = more(r.cleared);
-    n
-}
-
-fn renew_all(cells: &mut [u32], codes: &[u64], next: &[u32], r: Run) -> Run {
-    if !renew(cells, codes, next, r.front, r.live) {
-        return wronged(r);
-    }
-    let mut n = r;
-    n.rebuilt = more(r.rebuilt);
-    n
+    out
 }
 
 // A search for a random code, and then perhaps an act.
-fn round(cells: &mut [u32], codes: &mut [u64], next: &mut [u32], r: Run) -> Run {
+fn round(r: Run) -> Run {
+    let t = r.table;
+    let counts = r.counts;
     let seed = shaken(r.seed);
     let code = (seed >> 8) % 24;
-    let act = (seed >> 20) % 128;
-    let mut n = r;
-    n.seed = seed;
-    let said = search(cells, codes, next, r.front, r.live, code);
-    if said == BAD {
-        return wronged(n);
+    let said = searched(t, code);
+    let d = act(t, said, code, (seed >> 20) % 128);
+    let table = d.table;
+    let first = counted(counts, said);
+    let both = counted(first, d.what);
+    Run {
+        table,
+        seed,
+        counts: both,
     }
-    if said == FOUND {
-        n.found = more(r.found);
-        if act < 40 {
-            return remove_one(cells, codes, next, n, code, act < 20);
-        }
-    } else {
-        n.absent = more(r.absent);
-        if act < 80 {
-            return insert_one(cells, codes, next, n, code);
-        }
-    }
-    if act < 112 {
-        return n;
-    }
-    if act == 127 {
-        return clear_all(cells, n);
-    }
-    renew_all(cells, codes, next, n)
 }
 
-fn rounds(cells: &mut [u32], codes: &mut [u64], next: &mut [u32], r: Run, k: usize) -> Run {
-    let mut n = r;
-    let mut i: usize = 0;
-    while i < k {
-        n = round(cells, codes, next, n);
-        i += 1;
-    }
-    n
-}
-
-fn line(name: &[u8], count: u64) {
-    io::write_all(STDOUT_FILENO, name);
-    io::write_all(STDOUT_FILENO, b" ");
-    io::print_decimal(STDOUT_FILENO, count);
-    io::write_all(STDOUT_FILENO, b"\n");
-}
-
-// Runs k rounds on a fresh table, and writes how they went.
-pub fn drive(k: usize) {
-    let mut cells = [Head::NONE; 32];
-    let mut codes = [0u64; 16];
-    let mut next = [0u32; 16];
-    let start = Run {
+// The state after k rounds on a fresh table.
+fn rounds(k: usize) -> Run {
+    let t = Table {
+        cells: [Head::NONE; 32],
+        codes: [0u64; 16],
+        next: [0u32; 16],
         front: Head::NONE,
         live: 0,
-        seed: 88172645463325252,
-        found: 0,
-        absent: 0,
-        inserted: 0,
-        removed: 0,
-        cleared: 0,
-        rebuilt: 0,
-        wrong: 0,
     };
-    let r = rounds(&mut cells, &mut codes, &mut next, start, k);
-    line(b"rounds", k as u64);
-    line(
+    let mut r = Run {
+        table: t,
+        seed: 88172645463325252,
+        counts: [0u64; 8],
+    };
+    let mut i: usize = 0;
+    while i < k {
+        r = round(r);
+        i += 1;
+    }
+    r
+}
+
+fn tell_searches(counts: [u64; 8]) {
+    say(
         b"found where the scan finds, count within live + 1",
-        r.found,
+        counts[0],
     );
-    line(
+    say(
         b"absent where the scan finds nothing, count within live + 1",
-        r.absent,
+        counts[1],
     );
-    line(b"inserted", r.inserted);
-    line(b"removed", r.removed);
-    line(b"cleared", r.cleared);
-    line(b"rebuilt", r.rebuilt);
-    line(b"left with links", r.live as u64);
-    line(b"unsound or different", r.wrong);
+}
+
+fn tell_acts(counts: [u64; 8]) {
+    say(b"inserted", counts[2]);
+    say(b"removed", counts[3]);
+    say(b"cleared", counts[4]);
+    say(b"rebuilt", counts[5]);
+}
+
+// Runs k rounds, and writes how they went.
+pub fn drive(k: usize) {
+    let r = rounds(k);
+    let counts = r.counts;
+    let table = r.table;
+    say(b"rounds", k as u64);
+    tell_searches(counts);
+    tell_acts(counts);
+    say(b"left with links", table.live as u64);
+    say(b"unsound or different", counts[6]);
 }

@@ -1,7 +1,7 @@
--- `table_drive::free_slot` is safe and ends.
+-- `table_drive::free_slot` ends. The measure is how many slots are left.
 -- Assumes nothing.
-use Prim.Native.Nat.{_-_, _≤_}
-use native.Mathlib.Omega.{arith}
+use Prim.Native.Nat.{_≤_, _-_}
+use borrow.Author.Needs.{needs}
 use Rattle.table_drive.proofs.free_slot.Statement.{statement}
 use Rattle.table_drive.proofs.free_slot.Tie as tie
 
@@ -12,28 +12,28 @@ abbrev μ-loop : tie.MeasureT-loop
 μ-loop next front live s₀ s = 16 - s
 
 loop-holds : tie.Need-loop-holds Inv-loop μ-loop
-loop-holds c = omega arith
+loop-holds c = search needs
 
 cast-absent : tie.Need-cast-absent Inv-loop μ-loop
-cast-absent c = omega (arith, c .loop-test .taken)
+cast-absent c = search needs
 
 absent-requires : tie.Need-absent-requires Inv-loop μ-loop
-absent-requires c κs = tt
+absent-requires c κs = search needs
 
 returns : tie.Need-returns Inv-loop μ-loop
-returns c = tt
+returns c = search needs
 
 add-s : tie.Need-add-s Inv-loop μ-loop
-add-s c = omega (arith, c .before .before .loop-test .taken)
+add-s c = search needs
 
 loop-less : tie.Need-loop-less Inv-loop μ-loop
-loop-less c = omega (arith, c .before .before .loop-test .taken)
+loop-less c = search needs
 
 loop-again : tie.Need-loop-again Inv-loop μ-loop
-loop-again c = omega (arith, c .before .before .loop-test .taken)
+loop-again c = search needs
 
 returns-2 : tie.Need-returns-2 Inv-loop μ-loop
-returns-2 c = tt
+returns-2 c = search needs
 
 pub free-slot-spec : {M : Type 1} → statement M
 free-slot-spec =
