@@ -1033,7 +1033,7 @@ fn act(
 ) -> Said {
     if t.word == OPEN {
         let slots = narrow(t.d);
-        return cache_drive::begin(
+        return by_name::begin(
             head,
             t.b,
             t.c,
@@ -1067,7 +1067,7 @@ fn act(
             command,
         );
     }
-    cache_drive::step(
+    by_name::step(
         head,
         codes,
         stamps,

@@ -1,13 +1,14 @@
--- `cache_drive::begin` is safe.
+-- `by_name::begin` meets its contract: it is `cache::open`.
 -- Assumes nothing.
-use Rattle.cache_drive.proofs.begin.Statement.{statement}
-use Rattle.cache_drive.proofs.begin.Tie as tie
+use Rattle.by_name.proofs.Naming.{begins}
+use Rattle.by_name.proofs.begin.Statement.{statement}
+use Rattle.by_name.proofs.begin.Tie as tie
 
 open-requires : tie.Need-open-requires
 open-requires c κs = tt
 
-said-requires : tie.Need-said-requires
-said-requires c κs = tt
+told-requires : tie.Need-told-requires
+told-requires c κs = tt
 
 same-length : tie.Need-same-length
 same-length c = c .before .before .before .before .before .before .before .before .before .before .before .before .before .before .before .before .before .«open» .kept .1 .1 .1 .0
@@ -34,14 +35,14 @@ same-length-8 : tie.Need-same-length-8
 same-length-8 c = c .before .before .before .before .before .before .before .before .before .before .before .before .before .before .before .before .before .«open» .kept .1 .1 .1 .1 .1 .1 .1 .1 .1 .1 .0
 
 returns : tie.Need-returns
-returns c = tt
+returns c = begins (c .before .before .before .before .before .before .before .before .before .before .before .before .before .before .before .before .before .«open» .ensures) (c .told .ensures)
 
 pub begin-spec : {M : Type 1} → statement M
 begin-spec =
     tie.close
     (tie.spec
     open-requires
-    said-requires
+    told-requires
     same-length
     same-length-2
     same-length-3

@@ -1,8 +1,9 @@
--- `cache_drive::list_step` is safe.
+-- `by_name::listing` meets its contract: each call is that of the command asked.
 -- Assumes nothing.
+use Rattle.by_name.proofs.Naming.{tells-as, none-listing}
 use borrow.Author.Needs.{needs}
-use Rattle.cache_drive.proofs.list_step.Statement.{statement}
-use Rattle.cache_drive.proofs.list_step.Tie as tie
+use Rattle.by_name.proofs.listing.Statement.{statement}
+use Rattle.by_name.proofs.listing.Tie as tie
 
 enum-told : tie.Need-enum-told
 enum-told c = search needs
@@ -15,6 +16,9 @@ enum-told-2 c = search needs
 
 list-back-requires : tie.Need-list-back-requires
 list-back-requires c κs = tt
+
+never-requires : tie.Need-never-requires
+never-requires c κs = none-listing (c .before .before .before .before .before .before .before .before .before .before .before .before .before .args .command) (c .before .before .before .before .before .before .before .before .before .before .before .before .before .pre) (c .match .keys3)
 
 same-length : tie.Need-same-length
 same-length c = c .before .before .before .before .before .before .before .before .list .kept .1 .1 .1 .1 .1 .1 .1 .1 .1 .0
@@ -29,7 +33,7 @@ same-length-4 : tie.Need-same-length-4
 same-length-4 c = c .before .before .before .before .before .before .before .before .list .kept .1 .1 .1 .1 .1 .1 .1 .1 .1 .1 .1 .1 .0
 
 returns : tie.Need-returns
-returns c = tt
+returns c = tells-as (c .before .before .before .before .before .before .before .before .before .before .before .before .before .enum-told .given .1) (c .before .before .before .before .before .before .before .before .list .ensures)
 
 same-length-5 : tie.Need-same-length-5
 same-length-5 c = c .before .before .before .before .before .before .before .before .list-back .kept .1 .1 .1 .1 .1 .1 .1 .1 .1 .0
@@ -44,19 +48,20 @@ same-length-8 : tie.Need-same-length-8
 same-length-8 c = c .before .before .before .before .before .before .before .before .list-back .kept .1 .1 .1 .1 .1 .1 .1 .1 .1 .1 .1 .1 .0
 
 returns-2 : tie.Need-returns-2
-returns-2 c = tt
+returns-2 c = tells-as (c .before .before .before .before .before .before .before .before .before .before .before .before .before .enum-told2 .given .1) (c .before .before .before .before .before .before .before .before .list-back .ensures)
 
 returns-3 : tie.Need-returns-3
-returns-3 c = tt
+returns-3 c = absurd (c .never .ensures)
 
-pub list-step-spec : {M : Type 1} → statement M
-list-step-spec =
+pub listing-spec : {M : Type 1} → statement M
+listing-spec =
     tie.close
     (tie.spec
     enum-told
     list-requires
     enum-told-2
     list-back-requires
+    never-requires
     same-length
     same-length-2
     same-length-3

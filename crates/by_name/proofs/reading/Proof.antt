@@ -1,8 +1,9 @@
--- `cache_drive::read_step` is safe.
+-- `by_name::reading` meets its contract: each call is that of the command asked.
 -- Assumes nothing.
+use Rattle.by_name.proofs.Naming.{reads-as, none-reading}
 use borrow.Author.Needs.{needs}
-use Rattle.cache_drive.proofs.read_step.Statement.{statement}
-use Rattle.cache_drive.proofs.read_step.Tie as tie
+use Rattle.by_name.proofs.reading.Statement.{statement}
+use Rattle.by_name.proofs.reading.Tie as tie
 
 enum-told : tie.Need-enum-told
 enum-told c = search needs
@@ -58,38 +59,41 @@ enum-known-command-2 c = search needs
 contains-requires : tie.Need-contains-requires
 contains-requires c κs = tt
 
+never-requires : tie.Need-never-requires
+never-requires c κs = none-reading (c .before .before .before .before .before .before .before .before .before .args .command) (c .before .before .before .before .before .before .before .before .before .pre) (c .match .keys10)
+
 returns : tie.Need-returns
-returns c = tt
+returns c = reads-as (c .before .enum-told .given .1) (c .len .ensures)
 
 returns-2 : tie.Need-returns-2
-returns-2 c = tt
+returns-2 c = reads-as (c .before .enum-told2 .given .1) (c .capacity .ensures)
 
 returns-3 : tie.Need-returns-3
-returns-3 c = tt
+returns-3 c = reads-as (c .before .enum-told3 .given .1) (c .weight .ensures)
 
 returns-4 : tie.Need-returns-4
-returns-4 c = tt
+returns-4 c = reads-as (c .before .enum-told4 .given .1) (c .is-empty .ensures)
 
 returns-5 : tie.Need-returns-5
-returns-5 c = tt
+returns-5 c = reads-as (c .before .enum-told5 .given .1) (c .is-full .ensures)
 
 returns-6 : tie.Need-returns-6
-returns-6 c = tt
+returns-6 c = reads-as (c .before .enum-told6 .given .1) (c .front .ensures)
 
 returns-7 : tie.Need-returns-7
-returns-7 c = tt
+returns-7 c = reads-as (c .before .enum-told7 .given .1) (c .back .ensures)
 
 returns-8 : tie.Need-returns-8
-returns-8 c = tt
+returns-8 c = reads-as (c .before .before .command .given .1) (c .peek .ensures)
 
 returns-9 : tie.Need-returns-9
-returns-9 c = tt
+returns-9 c = reads-as (c .before .before .command2 .given .1) (c .contains .ensures)
 
 returns-10 : tie.Need-returns-10
-returns-10 c = tt
+returns-10 c = absurd (c .never .ensures)
 
-pub read-step-spec : {M : Type 1} → statement M
-read-step-spec =
+pub reading-spec : {M : Type 1} → statement M
+reading-spec =
     tie.close
     (tie.spec
     enum-told
@@ -110,6 +114,7 @@ read-step-spec =
     peek-requires
     enum-known-command-2
     contains-requires
+    never-requires
     returns
     returns-2
     returns-3

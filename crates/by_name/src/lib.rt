@@ -1,91 +1,88 @@
-// Makes the call of crate `cache` that a command names, so that a list of commands drives every public call.
+// The call of crate `cache` that a command names. `step` promises what crate `demands` says of each call of a run, so the prover holds every public call
+// to the contract that the runs there are made of; `begin` is opening.
 use door::Said;
 use head::Answer;
 use head::Command;
 use head::Head;
-use head::Refusal;
 use opening::Opened;
+ghost use mathlib.Core.Path.{_≡_};
+ghost use Rattle.head.specs.Fresh.{freshHead};
+ghost use Rattle.store.specs.State.{fields};
+ghost use Rattle.plan.specs.States.{state};
+ghost use Rattle.door.specs.Served.{Calls, Reads, Serves, Tells};
+ghost use Rattle.demands.specs.Runs.{acting, Contract, formOf, handing, listing, reading};
+ghost use Rattle.by_name.specs.Named.{Begins, formIn, toldOf};
 
-// Which of the steps below a command is for.
-const READS: u32 = 0;
+// The four forms of contract that the calls have.
+pub enum Form {
+    Reading,
+    Listing,
+    Acting,
+    Handing,
+}
 
-const LISTS: u32 = 1;
-
-const MOVES: u32 = 2;
-
-const SETS: u32 = 3;
-
-const PUTS: u32 = 4;
-
-const ADDS: u32 = 5;
-
-const FITS: u32 = 6;
-
-fn side(command: Command) -> u32 {
+// The form of a command's call.
+fn form_of(command: Command) -> Form
+    ensures { λ r. ⌜ formIn r ≡ formOf command ⌝ }
+{
     match command {
-        Command::List => LISTS,
-        Command::ListBack => LISTS,
-        Command::Get(_) => MOVES,
-        Command::Pop(_) => MOVES,
-        Command::PopFront => MOVES,
-        Command::PopBack => MOVES,
-        Command::Clear => MOVES,
-        Command::GetMut { code: _, value: _ } => SETS,
-        Command::PeekMut { code: _, value: _ } => SETS,
-        Command::FrontMut(_) => SETS,
-        Command::BackMut(_) => SETS,
+        Command::Len => Form::Reading,
+        Command::Capacity => Form::Reading,
+        Command::Weight => Form::Reading,
+        Command::IsEmpty => Form::Reading,
+        Command::IsFull => Form::Reading,
+        Command::Front => Form::Reading,
+        Command::Back => Form::Reading,
+        Command::Peek(_) => Form::Reading,
+        Command::Contains(_) => Form::Reading,
+        Command::List => Form::Listing,
+        Command::ListBack => Form::Listing,
+        Command::Get(_) => Form::Acting,
+        Command::Pop(_) => Form::Acting,
+        Command::PopFront => Form::Acting,
+        Command::PopBack => Form::Acting,
+        Command::Clear => Form::Acting,
+        Command::GetMut { code: _, value: _ } => Form::Acting,
+        Command::PeekMut { code: _, value: _ } => Form::Acting,
+        Command::FrontMut(_) => Form::Acting,
+        Command::BackMut(_) => Form::Acting,
         Command::Put {
             code: _,
             stamp: _,
             value: _,
-        } => PUTS,
+        } => Form::Handing,
         Command::PutWithWeight {
             code: _,
             stamp: _,
             value: _,
             weight: _,
-        } => PUTS,
+        } => Form::Handing,
+        Command::Retain(_) => Form::Handing,
+        Command::Resize(_) => Form::Handing,
         Command::PutOrModify {
             code: _,
             stamp: _,
             amount: _,
-        } => ADDS,
+        } => Form::Handing,
         Command::TryPutOrModify {
             code: _,
             stamp: _,
             amount: _,
             ceiling: _,
-        } => ADDS,
-        Command::Retain(_) => FITS,
-        Command::Resize(_) => FITS,
-        _ => READS,
+        } => Form::Handing,
     }
 }
 
-// What is said of a command that a step is not for.
-fn strange(head: Head) -> Said {
-    Said {
-        head,
-        answer: Answer::No(Refusal::NotUnderstood),
-    }
-}
-
-// What opening gave, told as a call's: the new head, or the old one with the refusal.
-fn said(head: Head, opened: Opened) -> Said {
-    match opened {
-        Opened::Cache(fresh) => Said {
-            head: fresh,
-            answer: Answer::Done { rows: 0 },
-        },
-        Opened::No(refusal) => Said {
-            head,
-            answer: Answer::No(refusal),
-        },
-    }
+// For an arm that no command comes to: the prover asks for a proof that it is never called.
+fn never() -> Answer
+    requires { ⌜ ⊥ ⌝ }
+    ensures { λ r. ⌜ ⊥ ⌝ }
+{
+    Answer::Absent
 }
 
 // The calls that read.
-fn read_step(
+fn reading(
     head: Head,
     codes: &[u64],
     stamps: &[u32],
@@ -96,7 +93,10 @@ fn read_step(
     stack: &[u32],
     cells: &[u32],
     command: Command,
-) -> Answer {
+) -> Answer
+    requires { ⌜ formOf command ≡ reading ⌝ }
+    ensures { λ r. ⌜ Reads command (state head (now (codes .entry)) (now (stamps .entry)) (now (values .entry)) (now (weights .entry)) (now (next .entry)) (now (prev .entry)) (now (stack .entry)) (now (cells .entry))) r ⌝ }
+{
     match command {
         Command::Len => cache::len(
             head,
@@ -199,12 +199,12 @@ fn read_step(
             cells,
             code,
         ),
-        _ => Answer::No(Refusal::NotUnderstood),
+        _ => never(),
     }
 }
 
 // The two listings.
-fn list_step(
+fn listing(
     head: Head,
     codes: &[u64],
     stamps: &[u32],
@@ -219,7 +219,10 @@ fn list_step(
     row_values: &mut [u64],
     row_weights: &mut [u64],
     command: Command,
-) -> Answer {
+) -> Answer
+    requires { ⌜ formOf command ≡ listing ⌝ }
+    ensures { λ r. ⌜ Tells command (state head (now (codes .entry)) (now (stamps .entry)) (now (values .entry)) (now (weights .entry)) (now (next .entry)) (now (prev .entry)) (now (stack .entry)) (now (cells .entry))) (fields (now («row_codes» .entry)) (now («row_stamps» .entry)) (now («row_values» .entry)) (now («row_weights» .entry))) (fields (now («row_codes» .exit)) (now («row_stamps» .exit)) (now («row_values» .exit)) (now («row_weights» .exit))) r ⌝ }
+{
     match command {
         Command::List => cache::list(
             head,
@@ -251,12 +254,12 @@ fn list_step(
             row_values,
             row_weights,
         ),
-        _ => Answer::No(Refusal::NotUnderstood),
+        _ => never(),
     }
 }
 
-// Moving, removing and clearing.
-fn move_step(
+// The calls that change the cache and hand out no rows.
+fn acting(
     head: Head,
     codes: &mut [u64],
     stamps: &mut [u32],
@@ -267,7 +270,10 @@ fn move_step(
     stack: &mut [u32],
     cells: &mut [u32],
     command: Command,
-) -> Said {
+) -> Said
+    requires { ⌜ formOf command ≡ acting ⌝ }
+    ensures { λ r. ⌜ Serves command 0 (state head (now (codes .entry)) (now (stamps .entry)) (now (values .entry)) (now (weights .entry)) (now (next .entry)) (now (prev .entry)) (now (stack .entry)) (now (cells .entry))) (state (r .head) (now (codes .exit)) (now (stamps .exit)) (now (values .exit)) (now (weights .exit)) (now (next .exit)) (now (prev .exit)) (now (stack .exit)) (now (cells .exit))) (r .answer) ⌝ }
+{
     match command {
         Command::Get(code) => cache::get(
             head,
@@ -326,24 +332,6 @@ fn move_step(
             stack,
             cells,
         ),
-        _ => strange(head),
-    }
-}
-
-// The calls that set a value.
-fn set_step(
-    head: Head,
-    codes: &mut [u64],
-    stamps: &mut [u32],
-    values: &mut [u64],
-    weights: &mut [u64],
-    next: &mut [u32],
-    prev: &mut [u32],
-    stack: &mut [u32],
-    cells: &mut [u32],
-    command: Command,
-) -> Said {
-    match command {
         Command::GetMut { code, value } => cache::get_mut(
             head,
             codes,
@@ -394,12 +382,15 @@ fn set_step(
             cells,
             value,
         ),
-        _ => strange(head),
+        _ => {
+            let answer = never();
+            Said { head, answer }
+        },
     }
 }
 
-// The calls that put.
-fn put_step(
+// The calls that hand out rows.
+fn handing(
     head: Head,
     codes: &mut [u64],
     stamps: &mut [u32],
@@ -414,7 +405,10 @@ fn put_step(
     row_values: &mut [u64],
     row_weights: &mut [u64],
     command: Command,
-) -> Said {
+) -> Said
+    requires { ⌜ formOf command ≡ handing ⌝ }
+    ensures { λ r. ⌜ Calls command (state head (now (codes .entry)) (now (stamps .entry)) (now (values .entry)) (now (weights .entry)) (now (next .entry)) (now (prev .entry)) (now (stack .entry)) (now (cells .entry))) (state (r .head) (now (codes .exit)) (now (stamps .exit)) (now (values .exit)) (now (weights .exit)) (now (next .exit)) (now (prev .exit)) (now (stack .exit)) (now (cells .exit))) (fields (now («row_codes» .entry)) (now («row_stamps» .entry)) (now («row_values» .entry)) (now («row_weights» .entry))) (fields (now («row_codes» .exit)) (now («row_stamps» .exit)) (now («row_values» .exit)) (now («row_weights» .exit))) (r .answer) ⌝ }
+{
     match command {
         Command::Put { code, stamp, value } => cache::put(
             head,
@@ -458,28 +452,38 @@ fn put_step(
             value,
             weight,
         ),
-        _ => strange(head),
-    }
-}
-
-// The calls that add to a value.
-fn add_step(
-    head: Head,
-    codes: &mut [u64],
-    stamps: &mut [u32],
-    values: &mut [u64],
-    weights: &mut [u64],
-    next: &mut [u32],
-    prev: &mut [u32],
-    stack: &mut [u32],
-    cells: &mut [u32],
-    row_codes: &mut [u64],
-    row_stamps: &mut [u32],
-    row_values: &mut [u64],
-    row_weights: &mut [u64],
-    command: Command,
-) -> Said {
-    match command {
+        Command::Retain(rule) => cache::retain(
+            head,
+            codes,
+            stamps,
+            values,
+            weights,
+            next,
+            prev,
+            stack,
+            cells,
+            row_codes,
+            row_stamps,
+            row_values,
+            row_weights,
+            rule,
+        ),
+        Command::Resize(capacity) => cache::resize(
+            head,
+            codes,
+            stamps,
+            values,
+            weights,
+            next,
+            prev,
+            stack,
+            cells,
+            row_codes,
+            row_stamps,
+            row_values,
+            row_weights,
+            capacity,
+        ),
         Command::PutOrModify {
             code,
             stamp,
@@ -526,224 +530,11 @@ fn add_step(
             amount,
             ceiling,
         ),
-        _ => strange(head),
+        _ => {
+            let answer = never();
+            Said { head, answer }
+        },
     }
-}
-
-// Sweeping and resizing.
-fn fit_step(
-    head: Head,
-    codes: &mut [u64],
-    stamps: &mut [u32],
-    values: &mut [u64],
-    weights: &mut [u64],
-    next: &mut [u32],
-    prev: &mut [u32],
-    stack: &mut [u32],
-    cells: &mut [u32],
-    row_codes: &mut [u64],
-    row_stamps: &mut [u32],
-    row_values: &mut [u64],
-    row_weights: &mut [u64],
-    command: Command,
-) -> Said {
-    match command {
-        Command::Retain(rule) => cache::retain(
-            head,
-            codes,
-            stamps,
-            values,
-            weights,
-            next,
-            prev,
-            stack,
-            cells,
-            row_codes,
-            row_stamps,
-            row_values,
-            row_weights,
-            rule,
-        ),
-        Command::Resize(capacity) => cache::resize(
-            head,
-            codes,
-            stamps,
-            values,
-            weights,
-            next,
-            prev,
-            stack,
-            cells,
-            row_codes,
-            row_stamps,
-            row_values,
-            row_weights,
-            capacity,
-        ),
-        _ => strange(head),
-    }
-}
-
-// The calls that leave the state alone.
-fn tell_step(
-    head: Head,
-    codes: &[u64],
-    stamps: &[u32],
-    values: &[u64],
-    weights: &[u64],
-    next: &[u32],
-    prev: &[u32],
-    stack: &[u32],
-    cells: &[u32],
-    row_codes: &mut [u64],
-    row_stamps: &mut [u32],
-    row_values: &mut [u64],
-    row_weights: &mut [u64],
-    command: Command,
-) -> Answer {
-    if side(command) == READS {
-        return read_step(
-            head,
-            codes,
-            stamps,
-            values,
-            weights,
-            next,
-            prev,
-            stack,
-            cells,
-            command,
-        );
-    }
-    list_step(
-        head,
-        codes,
-        stamps,
-        values,
-        weights,
-        next,
-        prev,
-        stack,
-        cells,
-        row_codes,
-        row_stamps,
-        row_values,
-        row_weights,
-        command,
-    )
-}
-
-// The calls that hand out no rows.
-fn serve_step(
-    head: Head,
-    codes: &mut [u64],
-    stamps: &mut [u32],
-    values: &mut [u64],
-    weights: &mut [u64],
-    next: &mut [u32],
-    prev: &mut [u32],
-    stack: &mut [u32],
-    cells: &mut [u32],
-    command: Command,
-) -> Said {
-    if side(command) == SETS {
-        return set_step(
-            head,
-            codes,
-            stamps,
-            values,
-            weights,
-            next,
-            prev,
-            stack,
-            cells,
-            command,
-        );
-    }
-    move_step(
-        head,
-        codes,
-        stamps,
-        values,
-        weights,
-        next,
-        prev,
-        stack,
-        cells,
-        command,
-    )
-}
-
-// The calls that change the state and hand out rows.
-fn row_step(
-    head: Head,
-    codes: &mut [u64],
-    stamps: &mut [u32],
-    values: &mut [u64],
-    weights: &mut [u64],
-    next: &mut [u32],
-    prev: &mut [u32],
-    stack: &mut [u32],
-    cells: &mut [u32],
-    row_codes: &mut [u64],
-    row_stamps: &mut [u32],
-    row_values: &mut [u64],
-    row_weights: &mut [u64],
-    command: Command,
-) -> Said {
-    let side = side(command);
-    if side == PUTS {
-        return put_step(
-            head,
-            codes,
-            stamps,
-            values,
-            weights,
-            next,
-            prev,
-            stack,
-            cells,
-            row_codes,
-            row_stamps,
-            row_values,
-            row_weights,
-            command,
-        );
-    }
-    if side == ADDS {
-        return add_step(
-            head,
-            codes,
-            stamps,
-            values,
-            weights,
-            next,
-            prev,
-            stack,
-            cells,
-            row_codes,
-            row_stamps,
-            row_values,
-            row_weights,
-            command,
-        );
-    }
-    fit_step(
-        head,
-        codes,
-        stamps,
-        values,
-        weights,
-        next,
-        prev,
-        stack,
-        cells,
-        row_codes,
-        row_stamps,
-        row_values,
-        row_weights,
-        command,
-    )
 }
 
 // One call, by the name that the command has in crate `cache`.
@@ -762,10 +553,58 @@ pub fn step(
     row_values: &mut [u64],
     row_weights: &mut [u64],
     command: Command,
-) -> Said {
-    let side = side(command);
-    if side <= LISTS {
-        let answer = tell_step(
+) -> Said
+    ensures { λ r. ⌜ Contract (formOf command) command (state head (now (codes .entry)) (now (stamps .entry)) (now (values .entry)) (now (weights .entry)) (now (next .entry)) (now (prev .entry)) (now (stack .entry)) (now (cells .entry))) (state (r .head) (now (codes .exit)) (now (stamps .exit)) (now (values .exit)) (now (weights .exit)) (now (next .exit)) (now (prev .exit)) (now (stack .exit)) (now (cells .exit))) (fields (now («row_codes» .entry)) (now («row_stamps» .entry)) (now («row_values» .entry)) (now («row_weights» .entry))) (fields (now («row_codes» .exit)) (now («row_stamps» .exit)) (now («row_values» .exit)) (now («row_weights» .exit))) (r .answer) ⌝ }
+{
+    let form = form_of(command);
+    match form {
+        Form::Reading => {
+            let answer = reading(
+                head,
+                codes,
+                stamps,
+                values,
+                weights,
+                next,
+                prev,
+                stack,
+                cells,
+                command,
+            );
+            Said { head, answer }
+        }
+        Form::Listing => {
+            let answer = listing(
+                head,
+                codes,
+                stamps,
+                values,
+                weights,
+                next,
+                prev,
+                stack,
+                cells,
+                row_codes,
+                row_stamps,
+                row_values,
+                row_weights,
+                command,
+            );
+            Said { head, answer }
+        }
+        Form::Acting => acting(
+            head,
+            codes,
+            stamps,
+            values,
+            weights,
+            next,
+            prev,
+            stack,
+            cells,
+            command,
+        ),
+        Form::Handing => handing(
             head,
             codes,
             stamps,
@@ -780,42 +619,27 @@ pub fn step(
             row_values,
             row_weights,
             command,
-        );
-        return Said { head, answer };
+        ),
     }
-    if side <= SETS {
-        return serve_step(
-            head,
-            codes,
-            stamps,
-            values,
-            weights,
-            next,
-            prev,
-            stack,
-            cells,
-            command,
-        );
-    }
-    row_step(
-        head,
-        codes,
-        stamps,
-        values,
-        weights,
-        next,
-        prev,
-        stack,
-        cells,
-        row_codes,
-        row_stamps,
-        row_values,
-        row_weights,
-        command,
-    )
 }
 
-// Opening: `Done` with the new head, or the refusal with the old one.
+// What opening gave, told as a call's: the new head and `Done`, or the old head and the refusal.
+fn told(head: Head, opened: Opened) -> Said
+    ensures { λ r. ⌜ r ≡ toldOf head opened ⌝ }
+{
+    match opened {
+        Opened::Cache(fresh) => Said {
+            head: fresh,
+            answer: Answer::Done { rows: 0 },
+        },
+        Opened::No(refusal) => Said {
+            head,
+            answer: Answer::No(refusal),
+        },
+    }
+}
+
+// Opening, told as a call's.
 pub fn begin(
     head: Head,
     kind: u32,
@@ -829,7 +653,9 @@ pub fn begin(
     prev: &mut [u32],
     stack: &mut [u32],
     cells: &mut [u32],
-) -> Said {
+) -> Said
+    ensures { λ r. ⌜ Begins kind capacity slots head (state (freshHead kind capacity slots) (now (codes .entry)) (now (stamps .entry)) (now (values .entry)) (now (weights .entry)) (now (next .entry)) (now (prev .entry)) (now (stack .entry)) (now (cells .entry))) (state (freshHead kind capacity slots) (now (codes .exit)) (now (stamps .exit)) (now (values .exit)) (now (weights .exit)) (now (next .exit)) (now (prev .exit)) (now (stack .exit)) (now (cells .exit))) r ⌝ }
+{
     let opened = cache::open(
         kind,
         capacity,
@@ -843,5 +669,5 @@ pub fn begin(
         stack,
         cells,
     );
-    said(head, opened)
+    told(head, opened)
 }
