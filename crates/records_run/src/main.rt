@@ -7,9 +7,10 @@ use head::Row;
 use head::Rule;
 use libc::STDOUT_FILENO;
 use opening::Opened;
+use plain::line::nth;
+use plain::line::nth_short;
+use plain::narrow;
 ghost use mathlib.Core.Path.{_≡_};
-ghost use Prim.Native.Nat.{_≤_};
-ghost use lib.ListN.{length};
 ghost use Rattle.store.specs.State.{fields};
 ghost use Rattle.records_run.specs.Eight.{eight};
 
@@ -103,25 +104,33 @@ fn print_row(row: Row) {
     io::write_all(STDOUT_FILENO, b")");
 }
 
-// The rows of the four lists, where they hold so many.
-fn print_numbers(codes: &[u64], stamps: &[u32], values: &[u64], weights: &[u64], n: u32) {
-    let mut i: usize = 0;
+// The four row lists.
+struct Rows {
+    codes: [u64; 16],
+    stamps: [u32; 16],
+    values: [u64; 16],
+    weights: [u64; 16],
+}
+
+fn row_at(rows: Rows, i: u64) -> Row {
+    let codes = rows.codes;
+    let stamps = rows.stamps;
+    let values = rows.values;
+    let weights = rows.weights;
+    Row {
+        code: Code(nth(&codes, i)),
+        stamp: narrow(nth_short(&stamps, i)),
+        value: nth(&values, i),
+        weight: nth(&weights, i),
+    }
+}
+
+// The rows of the four lists.
+fn print_numbers(rows: Rows, n: u32) {
+    let mut i: u64 = 0;
     while i < 8 {
-        if i < n as usize {
-            if i < codes.len() {
-                if i < stamps.len() {
-                    if i < values.len() {
-                        if i < weights.len() {
-                            print_row(Row {
-                                code: Code(codes[i]),
-                                stamp: stamps[i],
-                                value: values[i],
-                                weight: weights[i],
-                            });
-                        }
-                    }
-                }
-            }
+        if i < (n as u64) {
+            print_row(row_at(rows, i));
         }
         i += 1;
     }
@@ -139,15 +148,17 @@ fn print_records(list: [Row; 8], n: u32) {
     }
 }
 
+// The rows as records.
+fn recorded(rows: Rows, n: u32) -> [Row; 8] {
+    let codes = rows.codes;
+    let stamps = rows.stamps;
+    let values = rows.values;
+    let weights = rows.weights;
+    as_records(&codes, &stamps, &values, &weights, n)
+}
+
 // What a call answered, and its rows in both forms.
-fn show(
-    i: u32,
-    answer: Answer,
-    row_codes: &[u64],
-    row_stamps: &[u32],
-    row_values: &[u64],
-    row_weights: &[u64],
-) {
+fn show(i: u32, answer: Answer, rows: Rows) {
     say(b"call ", i as u64);
     if let Answer::No(r) = answer {
         say(b" no ", r.number() as u64);
@@ -155,88 +166,89 @@ fn show(
     let n = answer.rows();
     say(b": rows ", n as u64);
     io::write_all(STDOUT_FILENO, b"\n  numbers");
-    print_numbers(row_codes, row_stamps, row_values, row_weights, n);
+    print_numbers(rows, n);
     io::write_all(STDOUT_FILENO, b"\n  records");
-    let list = as_records(row_codes, row_stamps, row_values, row_weights, n);
+    let list = recorded(rows, n);
     print_records(list, n);
     io::write_all(STDOUT_FILENO, b"\n");
 }
 
-// One call, with row lists as long as the records, and what it handed out.
-fn step(
-    i: u32,
+// The cache that the calls are made on.
+struct State {
     head: Head,
-    codes: &mut [u64],
-    stamps: &mut [u32],
-    values: &mut [u64],
-    weights: &mut [u64],
-    next: &mut [u32],
-    prev: &mut [u32],
-    stack: &mut [u32],
-    cells: &mut [u32],
-    row_codes: &mut [u64],
-    row_stamps: &mut [u32],
-    row_values: &mut [u64],
-    row_weights: &mut [u64],
-) -> Head {
-    let c = command(i);
-    let said = door::call(
-        head,
-        codes,
-        stamps,
-        values,
-        weights,
-        next,
-        prev,
-        stack,
-        cells,
-        row_codes,
-        row_stamps,
-        row_values,
-        row_weights,
-        c,
-    );
-    let answer = said.answer;
-    show(i, answer, row_codes, row_stamps, row_values, row_weights);
-    said.head
+    codes: [u64; 16],
+    stamps: [u32; 16],
+    values: [u64; 16],
+    weights: [u64; 16],
+    next: [u32; 16],
+    prev: [u32; 16],
+    stack: [u32; 16],
+    cells: [u32; 32],
 }
 
-// The same with longer row lists, cut to as many rows as there are records.
-fn turn(
-    i: u32,
-    head: Head,
-    codes: &mut [u64],
-    stamps: &mut [u32],
-    values: &mut [u64],
-    weights: &mut [u64],
-    next: &mut [u32],
-    prev: &mut [u32],
-    stack: &mut [u32],
-    cells: &mut [u32],
-    row_codes: &mut [u64],
-    row_stamps: &mut [u32],
-    row_values: &mut [u64],
-    row_weights: &mut [u64],
-) -> Head
-    requires { ⌜ (8 ≤ length (now «row_codes»)) × (8 ≤ length (now «row_stamps»)) × (8 ≤ length (now «row_values»)) × (8 ≤ length (now «row_weights»)) ⌝ }
-{
+// What a call leaves, answers and hands out.
+struct Called {
+    state: State,
+    answer: Answer,
+    rows: Rows,
+}
+
+// One call, with row lists that are cut to as many rows as there are records.
+fn call(s: State, c: Command) -> Called {
     let k: usize = 8;
-    step(
-        i,
+    let head = s.head;
+    let mut codes = s.codes;
+    let mut stamps = s.stamps;
+    let mut values = s.values;
+    let mut weights = s.weights;
+    let mut next = s.next;
+    let mut prev = s.prev;
+    let mut stack = s.stack;
+    let mut cells = s.cells;
+    let mut row_codes = [0u64; 16];
+    let mut row_stamps = [0u32; 16];
+    let mut row_values = [0u64; 16];
+    let mut row_weights = [0u64; 16];
+    let said = door::call(
         head,
-        codes,
-        stamps,
-        values,
-        weights,
-        next,
-        prev,
-        stack,
-        cells,
+        &mut codes,
+        &mut stamps,
+        &mut values,
+        &mut weights,
+        &mut next,
+        &mut prev,
+        &mut stack,
+        &mut cells,
         &mut row_codes[..k],
         &mut row_stamps[..k],
         &mut row_values[..k],
         &mut row_weights[..k],
-    )
+        c,
+    );
+    let answer = said.answer;
+    let left = said.head;
+    let state = State {
+        head: left,
+        codes,
+        stamps,
+        values,
+        weights,
+        next,
+        prev,
+        stack,
+        cells,
+    };
+    let rows = Rows {
+        codes: row_codes,
+        stamps: row_stamps,
+        values: row_values,
+        weights: row_weights,
+    };
+    Called {
+        state,
+        answer,
+        rows,
+    }
 }
 
 // The head of a cache that was opened; a refused opening would leave a head that every call refuses.
@@ -247,60 +259,8 @@ fn opened(o: Opened) -> Head {
     }
 }
 
-// A plain cache of capacity 9 is opened, and the calls are made one after another.
-fn run(
-    codes: &mut [u64],
-    stamps: &mut [u32],
-    values: &mut [u64],
-    weights: &mut [u64],
-    next: &mut [u32],
-    prev: &mut [u32],
-    stack: &mut [u32],
-    cells: &mut [u32],
-    row_codes: &mut [u64],
-    row_stamps: &mut [u32],
-    row_values: &mut [u64],
-    row_weights: &mut [u64],
-)
-    requires { ⌜ (8 ≤ length (now «row_codes»)) × (8 ≤ length (now «row_stamps»)) × (8 ≤ length (now «row_values»)) × (8 ≤ length (now «row_weights»)) ⌝ }
-{
-    let o = cache::open(
-        Head::PLAIN,
-        9,
-        16,
-        codes,
-        stamps,
-        values,
-        weights,
-        next,
-        prev,
-        stack,
-        cells,
-    );
-    let mut head = opened(o);
-    let mut i: u32 = 0;
-    while i < CALLS {
-        head = turn(
-            i,
-            head,
-            codes,
-            stamps,
-            values,
-            weights,
-            next,
-            prev,
-            stack,
-            cells,
-            row_codes,
-            row_stamps,
-            row_values,
-            row_weights,
-        );
-        i += 1;
-    }
-}
-
-fn main() {
+// A plain cache of capacity 9 and 16 slots.
+fn begun() -> State {
     let mut codes = [0u64; 16];
     let mut stamps = [0u32; 16];
     let mut values = [0u64; 16];
@@ -309,11 +269,10 @@ fn main() {
     let mut prev = [0u32; 16];
     let mut stack = [0u32; 16];
     let mut cells = [0u32; 32];
-    let mut row_codes = [0u64; 16];
-    let mut row_stamps = [0u32; 16];
-    let mut row_values = [0u64; 16];
-    let mut row_weights = [0u64; 16];
-    run(
+    let o = cache::open(
+        Head::PLAIN,
+        9,
+        16,
         &mut codes,
         &mut stamps,
         &mut values,
@@ -322,9 +281,36 @@ fn main() {
         &mut prev,
         &mut stack,
         &mut cells,
-        &mut row_codes,
-        &mut row_stamps,
-        &mut row_values,
-        &mut row_weights,
     );
+    let head = opened(o);
+    State {
+        head,
+        codes,
+        stamps,
+        values,
+        weights,
+        next,
+        prev,
+        stack,
+        cells,
+    }
+}
+
+// A call by its number, and what it came to.
+fn step(s: State, i: u32) -> State {
+    let done = call(s, command(i));
+    let answer = done.answer;
+    let rows = done.rows;
+    show(i, answer, rows);
+    done.state
+}
+
+// The calls are made one after another.
+fn main() {
+    let mut s = begun();
+    let mut i: u32 = 0;
+    while i < CALLS {
+        s = step(s, i);
+        i += 1;
+    }
 }

@@ -1,4 +1,4 @@
--- `records_run::print_numbers` is safe and ends.
+-- `records_run::print_numbers` ends. The measure is how many rows are left.
 -- Assumes nothing.
 use Prim.Native.Nat.{_≤_, _-_}
 use borrow.Author.Needs.{needs}
@@ -6,37 +6,16 @@ use Rattle.records_run.proofs.print_numbers.Statement.{statement}
 use Rattle.records_run.proofs.print_numbers.Tie as tie
 
 abbrev Inv-loop : tie.InvT-loop
-Inv-loop codes stamps values weights n i₀ i = i ≤ 8
+Inv-loop rows n i₀ i = i ≤ 8
 
 abbrev μ-loop : tie.MeasureT-loop
-μ-loop codes stamps values weights n i₀ i = 8 - i
+μ-loop rows n i₀ i = 8 - i
 
 loop-holds : tie.Need-loop-holds Inv-loop μ-loop
 loop-holds c = search needs
 
-mul-t18 : tie.Need-mul-t18 Inv-loop μ-loop
-mul-t18 c = search needs
-
-shared-slice-read-t20 : tie.Need-shared-slice-read-t20 Inv-loop μ-loop
-shared-slice-read-t20 c = search needs
-
-mul-t22 : tie.Need-mul-t22 Inv-loop μ-loop
-mul-t22 c = search needs
-
-shared-slice-read-t24 : tie.Need-shared-slice-read-t24 Inv-loop μ-loop
-shared-slice-read-t24 c = search needs
-
-mul-t25 : tie.Need-mul-t25 Inv-loop μ-loop
-mul-t25 c = search needs
-
-shared-slice-read-t27 : tie.Need-shared-slice-read-t27 Inv-loop μ-loop
-shared-slice-read-t27 c = search needs
-
-mul-t28 : tie.Need-mul-t28 Inv-loop μ-loop
-mul-t28 c = search needs
-
-shared-slice-read-t30 : tie.Need-shared-slice-read-t30 Inv-loop μ-loop
-shared-slice-read-t30 c = search needs
+row-at-requires : tie.Need-row-at-requires Inv-loop μ-loop
+row-at-requires c κs = search needs
 
 print-row-requires : tie.Need-print-row-requires Inv-loop μ-loop
 print-row-requires c κs = search needs
@@ -60,14 +39,7 @@ print-numbers-spec =
     Inv-loop
     μ-loop
     loop-holds
-    mul-t18
-    shared-slice-read-t20
-    mul-t22
-    shared-slice-read-t24
-    mul-t25
-    shared-slice-read-t27
-    mul-t28
-    shared-slice-read-t30
+    row-at-requires
     print-row-requires
     add-i
     loop-less
