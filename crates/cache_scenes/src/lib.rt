@@ -1157,99 +1157,7 @@ fn report(
     say_state(head, codes, stamps, values, weights, next, stack);
 }
 
-// One turn and its line.
-fn play(
-    i: u32,
-    head: Head,
-    codes: &mut [u64],
-    stamps: &mut [u32],
-    values: &mut [u64],
-    weights: &mut [u64],
-    next: &mut [u32],
-    prev: &mut [u32],
-    stack: &mut [u32],
-    cells: &mut [u32],
-    row_codes: &mut [u64],
-    row_stamps: &mut [u32],
-    row_values: &mut [u64],
-    row_weights: &mut [u64],
-) -> Head {
-    let t = turn_at(i);
-    let hurt = harmed(head, t);
-    let said = lend(
-        t,
-        hurt,
-        codes,
-        stamps,
-        values,
-        weights,
-        next,
-        prev,
-        stack,
-        cells,
-        row_codes,
-        row_stamps,
-        row_values,
-        row_weights,
-    );
-    let whole = mended(head, hurt, said, t);
-    report(
-        i,
-        t,
-        whole,
-        said,
-        codes,
-        stamps,
-        values,
-        weights,
-        next,
-        stack,
-        row_codes,
-        row_stamps,
-        row_values,
-        row_weights,
-    );
-    whole
-}
-
-fn run(
-    codes: &mut [u64],
-    stamps: &mut [u32],
-    values: &mut [u64],
-    weights: &mut [u64],
-    next: &mut [u32],
-    prev: &mut [u32],
-    stack: &mut [u32],
-    cells: &mut [u32],
-    row_codes: &mut [u64],
-    row_stamps: &mut [u32],
-    row_values: &mut [u64],
-    row_weights: &mut [u64],
-) {
-    let mut head = Head::fresh(Head::PLAIN, 8, 8);
-    let mut i: u32 = 0;
-    while i < TURNS {
-        head = play(
-            i,
-            head,
-            codes,
-            stamps,
-            values,
-            weights,
-            next,
-            prev,
-            stack,
-            cells,
-            row_codes,
-            row_stamps,
-            row_values,
-            row_weights,
-        );
-        i += 1;
-    }
-}
-
-// Every turn, in lists that hold 7 everywhere at the start.
+// Every turn with its line, in lists that hold 7 everywhere at the start.
 pub fn drive() {
     let mut codes = [7u64; 8];
     let mut stamps = [7u32; 8];
@@ -1263,18 +1171,44 @@ pub fn drive() {
     let mut row_stamps = [7u32; 8];
     let mut row_values = [7u64; 8];
     let mut row_weights = [7u64; 8];
-    run(
-        &mut codes,
-        &mut stamps,
-        &mut values,
-        &mut weights,
-        &mut next,
-        &mut prev,
-        &mut stack,
-        &mut cells,
-        &mut row_codes,
-        &mut row_stamps,
-        &mut row_values,
-        &mut row_weights,
-    );
+    let mut head = Head::fresh(Head::PLAIN, 8, 8);
+    let mut i: u32 = 0;
+    while i < TURNS {
+        let t = turn_at(i);
+        let hurt = harmed(head, t);
+        let said = lend(
+            t,
+            hurt,
+            &mut codes,
+            &mut stamps,
+            &mut values,
+            &mut weights,
+            &mut next,
+            &mut prev,
+            &mut stack,
+            &mut cells,
+            &mut row_codes,
+            &mut row_stamps,
+            &mut row_values,
+            &mut row_weights,
+        );
+        head = mended(head, hurt, said, t);
+        report(
+            i,
+            t,
+            head,
+            said,
+            &codes,
+            &stamps,
+            &values,
+            &weights,
+            &next,
+            &stack,
+            &row_codes,
+            &row_stamps,
+            &row_values,
+            &row_weights,
+        );
+        i += 1;
+    }
 }
