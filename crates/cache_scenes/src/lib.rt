@@ -524,8 +524,46 @@ fn damages(i: u32) -> Turn {
     }
 }
 
+// A weighed cache of three and four entries: both ends, looked at and taken, codes sought, listings either way, and all cleared.
+fn weighed_ends(i: u32) -> Turn {
+    match i {
+        0 => opening(1, 30, 5),
+        1 => weighed(1, 5, 100, 4),
+        2 => weighed(2, 6, 200, 0),
+        3 => weighed(3, 7, 300, 6),
+        4 => weighed(4, 8, 400, 2),
+        5 => asked(FRONT),
+        6 => asked(BACK),
+        7 => coded(PEEK, 2),
+        8 => coded(PEEK, 9),
+        9 => coded(CONTAINS, 1),
+        10 => coded(CONTAINS, 5),
+        11 => asked(LIST_FRONT),
+        12 => asked(LIST_BACK),
+        13 => coded(GET, 1),
+        14 => asked(LIST_BACK),
+        15 => asked(POP_BACK),
+        16 => at_door(asked(LIST_FRONT)),
+        17 => asked(POP_FRONT),
+        18 => weighed(5, 9, 500, 3),
+        19 => asked(FRONT),
+        20 => asked(BACK),
+        21 => weighed(6, 1, 600, 18),
+        22 => asked(LIST_FRONT),
+        23 => at_door(asked(POP_FRONT)),
+        24 => weighed(7, 2, 700, 1),
+        25 => at_door(asked(POP_BACK)),
+        26 => weighed(8, 3, 800, 0),
+        27 => coded(PEEK, 7),
+        28 => coded(CONTAINS, 4),
+        29 => at_door(asked(LIST_BACK)),
+        30 => asked(CLEAR),
+        _ => asked(LIST_FRONT),
+    }
+}
+
 // All turns, scene by scene.
-const TURNS: u32 = 286;
+const TURNS: u32 = 318;
 
 fn turn_at(i: u32) -> Turn {
     if i < 23 {
@@ -561,7 +599,10 @@ fn turn_at(i: u32) -> Turn {
     if i < 252 {
         return doors(i - 226);
     }
-    damages(i - 252)
+    if i < 286 {
+        return damages(i - 252);
+    }
+    weighed_ends(i - 286)
 }
 
 // ---- what a turn asks

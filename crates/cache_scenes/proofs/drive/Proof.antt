@@ -23,7 +23,7 @@ Inv-loop codes₀ stamps₀ values₀ weights₀ next₀ prev₀ stack₀ cells�
     × (length rowWeights ≡ 8)
 
 abbrev μ-loop : tie.MeasureT-loop
-μ-loop codes₀ stamps₀ values₀ weights₀ next₀ prev₀ stack₀ cells₀ rowCodes₀ rowStamps₀ rowValues₀ rowWeights₀ head₀ i₀ codes stamps values weights next prev stack cells rowCodes rowStamps rowValues rowWeights head i = 286 - i
+μ-loop codes₀ stamps₀ values₀ weights₀ next₀ prev₀ stack₀ cells₀ rowCodes₀ rowStamps₀ rowValues₀ rowWeights₀ head₀ i₀ codes stamps values weights next prev stack cells rowCodes rowStamps rowValues rowWeights head i = 318 - i
 
 fresh-requires : tie.Need-fresh-requires Inv-loop μ-loop
 fresh-requires c κs = tt
