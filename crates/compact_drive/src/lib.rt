@@ -95,6 +95,7 @@ fn wiped(next: [u32; 16], list: [u64; 16]) -> [u64; 16] {
     out
 }
 
+// The same of 32-bit numbers.
 fn wiped_short(next: [u32; 16], list: [u32; 16]) -> [u32; 16] {
     let mut out = list;
     let mut i: usize = 0;
@@ -128,6 +129,7 @@ fn kept(l: Links, f: Fields) -> Lists {
     }
 }
 
+// An entry comes to the front.
 fn push(s: Lists, mark: u64) -> Lists {
     let l = s.links;
     let f = s.fields;
@@ -140,6 +142,7 @@ fn push(s: Lists, mark: u64) -> Lists {
     }
 }
 
+// The entry in a slot leaves.
 fn remove(s: Lists, slot: u64) -> Lists {
     let l = s.links;
     let f = s.fields;
@@ -147,6 +150,7 @@ fn remove(s: Lists, slot: u64) -> Lists {
     kept(l1, f)
 }
 
+// So many entries leave by the back.
 fn evict(s: Lists, k: u64) -> Lists {
     let l = s.links;
     let f = s.fields;
@@ -225,6 +229,7 @@ fn resize_in(
     head
 }
 
+// The same of the lists by value.
 fn resize(s: Lists, capacity: u64) -> Lists {
     let mut l = s.links;
     let mut f = s.fields;
@@ -260,6 +265,7 @@ fn resize(s: Lists, capacity: u64) -> Lists {
     }
 }
 
+// A turn's operation on the list with its fields.
 fn act(s: Lists, t: Plan, mark: u64, slot: u64) -> Lists {
     let kind = t.kind;
     if kind == PUSH {
@@ -275,6 +281,7 @@ fn act(s: Lists, t: Plan, mark: u64, slot: u64) -> Lists {
     resize(r, t.capacity)
 }
 
+// The same operation on the plain side, whose capacity is c.
 fn plain_act(o: Order, c: u64, t: Plan, mark: u64) -> Order {
     let kind = t.kind;
     let d = t.capacity;
@@ -324,6 +331,7 @@ fn wanted(o: Order, s: u64) -> Row {
     }
 }
 
+// Whether a slot holds an entry.
 fn entry_agrees(f: Fields, s: u64, e: Row) -> bool {
     let codes = f.codes;
     let stamps = f.stamps;
@@ -353,6 +361,7 @@ fn fields_agree(f: Fields, o: Order) -> bool {
     true
 }
 
+// Whether every number agrees.
 fn agrees(s: Lists, o: Order, c: u64) -> bool {
     let l = s.links;
     let f = s.fields;
@@ -419,6 +428,7 @@ struct Plan {
     capacity: u64,
 }
 
+// A turn on n entries and a capacity of c, by two draws.
 fn planned(r: u64, q: u64, n: u64, c: u64) -> Plan {
     let kind = chosen(r, n, c);
     let d = aim(kind, c, q);
@@ -443,6 +453,7 @@ fn noted(tally: [u64; 7], kind: u64, agreed: bool) -> [u64; 7] {
     out
 }
 
+// One turn on both sides, which are then compared.
 fn turn(w: World, left: u64) -> World {
     let s = w.lists;
     let o = w.order;
@@ -493,14 +504,24 @@ fn run(turns: u64) -> [u64; 7] {
     w.tally
 }
 
-// The whole, and what it came to.
-pub fn drive(turns: u64) {
-    let tally = run(turns);
+// How many turns only moved entries.
+fn tell_entries(tally: [u64; 7]) {
     say(b"push", tally[0]);
     say(b"remove", tally[1]);
     say(b"evict", tally[2]);
+}
+
+// How many set the capacity.
+fn tell_capacities(tally: [u64; 7]) {
     say(b"shrink", tally[3]);
     say(b"equal", tally[4]);
     say(b"grow", tally[5]);
+}
+
+// The whole, and what it came to.
+pub fn drive(turns: u64) {
+    let tally = run(turns);
+    tell_entries(tally);
+    tell_capacities(tally);
     say(b"agreed", tally[6]);
 }

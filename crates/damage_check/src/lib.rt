@@ -3,7 +3,16 @@ use head::Code;
 use head::Head;
 use head::Place;
 use head::Slot;
-use libc::STDOUT_FILENO;
+use plain::at;
+use plain::less;
+use plain::more;
+use plain::narrow;
+use plain::one;
+use plain::pick;
+use plain::plus;
+use plain::say;
+use plain::set;
+use plain::shaken;
 
 // A state is a sheet of 153 numbers: the head's nine, then eight lists. Each list has 16 places, the cells 32. Behind them the sheet says
 // how many of each list's places are lent.
@@ -942,40 +951,6 @@ const STATES: [u64; 882] = [
     4294967295,
 ];
 
-fn more(x: u64) -> u64 {
-    std::num::wrapping_add_u64(x, 1)
-}
-
-fn plus(x: u64, y: u64) -> u64 {
-    std::num::wrapping_add_u64(x, y)
-}
-
-fn less(x: u64) -> u64 {
-    std::num::wrapping_sub_u64(x, 1)
-}
-
-fn one(yes: bool) -> u64 {
-    if yes { 1 } else { 0 }
-}
-
-fn pick(yes: bool, a: u64, b: u64) -> u64 {
-    if yes { a } else { b }
-}
-
-// The number at a place, 0 past the end.
-fn at(s: &[u64], i: u64) -> u64 {
-    let j = i as usize;
-    if j < s.len() { s[j] } else { 0 }
-}
-
-// Stores at a place, nothing past the end.
-fn set(s: &mut [u64], i: u64, v: u64) {
-    let j = i as usize;
-    if j < s.len() {
-        s[j] = v;
-    }
-}
-
 // How many places of a list, by its number 0 to 7, are lent.
 fn lent(s: &[u64], list: u64) -> u64 {
     at(s, plus(SHEET, list))
@@ -1014,12 +989,10 @@ fn long_ok(s: &[u64], n: u64) -> bool {
     true
 }
 
-// Kind, capacity and slots as opening allows, the lists long enough, and the totals within the capacity.
-fn bounds_ok(s: &[u64]) -> bool {
+// Kind, capacity and slots as opening allows.
+fn opening_ok(s: &[u64]) -> bool {
     let c = at(s, CAPACITY);
     let n = at(s, SLOTS);
-    let live = at(s, LIVE);
-    let w = at(s, WEIGHT);
     if 1 < at(s, KIND) {
         return false;
     }
@@ -1032,12 +1005,13 @@ fn bounds_ok(s: &[u64]) -> bool {
     if n == 0 {
         return false;
     }
-    if MOST_SLOTS < n {
-        return false;
-    }
-    if !long_ok(s, n) {
-        return false;
-    }
+    n <= MOST_SLOTS
+}
+
+// The totals within capacity and slots.
+fn totals_ok(s: &[u64], n: u64, live: u64) -> bool {
+    let c = at(s, CAPACITY);
+    let w = at(s, WEIGHT);
     if c < w {
         return false;
     }
@@ -1051,6 +1025,17 @@ fn bounds_ok(s: &[u64]) -> bool {
         return false;
     }
     at(s, TOP) <= n
+}
+
+// The head's numbers in their bounds, and the lists long enough.
+fn bounds_ok(s: &[u64], n: u64, live: u64) -> bool {
+    if !opening_ok(s) {
+        return false;
+    }
+    if !long_ok(s, n) {
+        return false;
+    }
+    totals_ok(s, n, live)
 }
 
 // How often a slot is met in so many steps from the front on.
@@ -1285,10 +1270,10 @@ fn cells_ok(s: &[u64], cells: u64) -> bool {
 }
 
 // Whether a sheet is sound, by the paper's section on slots, free stack and table.
-fn plain(s: &[u64]) -> bool {
+fn sound(s: &[u64]) -> bool {
     let n = at(s, SLOTS);
     let live = at(s, LIVE);
-    if !bounds_ok(s) {
+    if !bounds_ok(s, n, live) {
         return false;
     }
     if !order_ok(s, live) {
@@ -1307,10 +1292,6 @@ fn plain(s: &[u64]) -> bool {
 }
 
 // ---- the library's inspection
-
-fn narrow(x: u64) -> u32 {
-    (x % 4294967296) as u32
-}
 
 fn store_wide(out: &mut [u64; 16], i: u64, v: u64) {
     let j = i as usize;
@@ -1443,35 +1424,46 @@ fn inspected(s: &[u64]) -> bool {
 
 // ---- the damages
 
-// How many there were, and what the two said.
+// What is counted: states, and those that one of the two calls unsound; damages of each kind; and what the two said.
+const LAID: u64 = 0;
+
+const WRONG: u64 = 1;
+
+const SHORT: u64 = 2;
+
+const SINGLE: u64 = 3;
+
+const DOUBLE: u64 = 4;
+
+const BOTH_SOUND: u64 = 5;
+
+const BOTH_UNSOUND: u64 = 6;
+
+const DIFFER: u64 = 7;
+
+// Where the data of the next state start, the draw to go on from, and the counts.
 struct Tally {
     from: u64,
     seed: u64,
-    states: u64,
-    wrong_states: u64,
-    single: u64,
-    double: u64,
-    short: u64,
-    sound: u64,
-    unsound: u64,
-    differ: u64,
+    counts: [u64; 8],
+}
+
+fn counted(t: Tally, what: u64) -> Tally {
+    let mut r = t;
+    let i = what as usize;
+    if 8 <= i {
+        return t;
+    }
+    r.counts[i] = more(t.counts[i]);
+    r
 }
 
 // Asks both about a sheet that was changed.
 fn compared(s: &[u64], t: Tally) -> Tally {
     let a = inspected(s);
-    let b = plain(s);
-    let mut r = t;
-    if a != b {
-        r.differ = more(t.differ);
-        return r;
-    }
-    if a {
-        r.sound = more(t.sound);
-        return r;
-    }
-    r.unsound = more(t.unsound);
-    r
+    let b = sound(s);
+    let same = pick(a, BOTH_SOUND, BOTH_UNSOUND);
+    counted(t, pick(a == b, same, DIFFER))
 }
 
 // Whether a place of the sheet is one that n slots need.
@@ -1539,10 +1531,9 @@ fn tried(s: &mut [u64], i: u64, way: u64, t: Tally) -> Tally {
         return t;
     }
     set(s, i, new);
-    let mut r = compared(s, t);
-    r.single = more(t.single);
+    let r = compared(s, t);
     set(s, i, old);
-    r
+    counted(r, SINGLE)
 }
 
 // Each way to change one place.
@@ -1572,13 +1563,6 @@ fn singles(s: &mut [u64], t: Tally) -> Tally {
         i += 1;
     }
     r
-}
-
-// The next number of a generator (xorshift).
-fn shaken(seed: u64) -> u64 {
-    let a = seed ^ (seed << 13);
-    let b = a ^ (a >> 7);
-    b ^ (b << 17)
 }
 
 // The place after so many needed ones, counted from the head's first.
@@ -1617,14 +1601,40 @@ fn tried_two(s: &mut [u64], i: u64, a: u64, j: u64, b: u64, t: Tally) -> Tally {
     }
     set(s, i, a);
     set(s, j, b);
-    let mut r = compared(s, t);
-    r.double = more(t.double);
+    let r = compared(s, t);
     set(s, j, old_j);
     set(s, i, old_i);
-    r
+    counted(r, DOUBLE)
 }
 
-// Two needed places at random: each changed in a way of its own, or the two swapped, or one more and one less.
+// What two places become.
+struct Two {
+    a: u64,
+    b: u64,
+}
+
+// Each changed in a way of its own, or the two swapped, or one more and one less.
+fn both_changed(s: &[u64], i: u64, j: u64, seed: u64) -> Two {
+    let act = (seed >> 60) % 4;
+    if act == 0 {
+        return Two {
+            a: at(s, j),
+            b: at(s, i),
+        };
+    }
+    if act == 1 {
+        return Two {
+            a: more(at(s, i)),
+            b: less(at(s, j)),
+        };
+    }
+    Two {
+        a: changed(s, i, (seed >> 44) % WAYS),
+        b: changed(s, j, (seed >> 52) % WAYS),
+    }
+}
+
+// Two needed places at random are changed.
 fn pair(s: &mut [u64], t: Tally) -> Tally {
     let seed = shaken(t.seed);
     let n = at(s, SLOTS);
@@ -1639,20 +1649,8 @@ fn pair(s: &mut [u64], t: Tally) -> Tally {
     if i == j {
         return r;
     }
-    let act = (seed >> 60) % 4;
-    if act == 0 {
-        let a = fitting(i, at(s, j));
-        let b = fitting(j, at(s, i));
-        return tried_two(s, i, a, j, b, r);
-    }
-    if act == 1 {
-        let a = fitting(i, more(at(s, i)));
-        let b = fitting(j, less(at(s, j)));
-        return tried_two(s, i, a, j, b, r);
-    }
-    let a = fitting(i, changed(s, i, (seed >> 44) % WAYS));
-    let b = fitting(j, changed(s, j, (seed >> 52) % WAYS));
-    tried_two(s, i, a, j, b, r)
+    let new = both_changed(s, i, j, seed);
+    tried_two(s, i, fitting(i, new.a), j, fitting(j, new.b), r)
 }
 
 fn doubles(s: &mut [u64], pairs: u64, t: Tally) -> Tally {
@@ -1678,10 +1676,9 @@ fn lend_all(s: &mut [u64]) {
 fn tried_short(s: &mut [u64], list: u64, k: u64, t: Tally) -> Tally {
     let i = plus(SHEET, list);
     set(s, i, k);
-    let mut r = compared(s, t);
-    r.short = more(t.short);
+    let r = compared(s, t);
     set(s, i, wanted(list, LENT));
-    r
+    counted(r, SHORT)
 }
 
 // One list as long as the slots need, one shorter, and empty.
@@ -1742,16 +1739,13 @@ fn laid(s: &mut [u64], from: u64, blank: bool) -> u64 {
 
 // Both must say sound before anything is changed.
 fn opened(s: &[u64], t: Tally) -> Tally {
-    let mut r = t;
-    r.states = more(t.states);
-    if !inspected(s) {
-        r.wrong_states = more(t.wrong_states);
-        return r;
+    let r = counted(t, LAID);
+    if inspected(s) {
+        if sound(s) {
+            return r;
+        }
     }
-    if !plain(s) {
-        r.wrong_states = more(t.wrong_states);
-    }
-    r
+    counted(r, WRONG)
 }
 
 // Every damage to the state on the sheet.
@@ -1781,11 +1775,23 @@ fn run(s: &mut [u64], states: u64, pairs: u64, t: Tally) -> Tally {
     r
 }
 
-fn line(name: &[u8], count: u64) {
-    io::write_all(STDOUT_FILENO, name);
-    io::write_all(STDOUT_FILENO, b" ");
-    io::print_decimal(STDOUT_FILENO, count);
-    io::write_all(STDOUT_FILENO, b"\n");
+// How many states and damages there were.
+fn tell_damages(counts: [u64; 8]) {
+    say(b"states", counts[0]);
+    say(b"states that one of the two calls unsound", counts[1]);
+    say(
+        b"one list lent to what is needed, one less, and empty",
+        counts[2],
+    );
+    say(b"one number changed", counts[3]);
+    say(b"two numbers changed", counts[4]);
+}
+
+// What the two said of them.
+fn tell_answers(counts: [u64; 8]) {
+    say(b"both say sound", counts[5]);
+    say(b"both say unsound", counts[6]);
+    say(b"disagreements", counts[7]);
 }
 
 // Runs the first so many states, each with two kinds of tail, with so many draws of two numbers, and writes how it went.
@@ -1795,25 +1801,10 @@ pub fn drive(states: u64, pairs: u64) {
     let start = Tally {
         from: 0,
         seed: 88172645463325252,
-        states: 0,
-        wrong_states: 0,
-        single: 0,
-        double: 0,
-        short: 0,
-        sound: 0,
-        unsound: 0,
-        differ: 0,
+        counts: [0u64; 8],
     };
     let t = run(&mut s, states, pairs, start);
-    line(b"states", t.states);
-    line(b"states that one of the two calls unsound", t.wrong_states);
-    line(
-        b"one list lent to what is needed, one less, and empty",
-        t.short,
-    );
-    line(b"one number changed", t.single);
-    line(b"two numbers changed", t.double);
-    line(b"both say sound", t.sound);
-    line(b"both say unsound", t.unsound);
-    line(b"disagreements", t.differ);
+    let counts = t.counts;
+    tell_damages(counts);
+    tell_answers(counts);
 }

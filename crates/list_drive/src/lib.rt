@@ -2,7 +2,6 @@
 use head::Head;
 use head::Slot;
 use plain::draw;
-use plain::less;
 use plain::line;
 use plain::line::Order;
 use plain::more;
@@ -10,7 +9,7 @@ use plain::narrow;
 use plain::pick;
 use plain::say;
 
-// What a turn does. The numbers are places of the tally too; AGREED is the one behind them.
+// What a turn does. The numbers are places of the tally too; the last place counts the turns after which the two agreed.
 const PUSH: u64 = 0;
 
 const REMOVE: u64 = 1;
@@ -20,8 +19,6 @@ const MOVE: u64 = 2;
 const EVICT: u64 = 3;
 
 const CLEAR: u64 = 4;
-
-const AGREED: u64 = 5;
 
 // The list: its head and its links.
 pub struct Links {
@@ -51,6 +48,7 @@ pub fn bare(head: Head) -> Links {
 
 // ---- the list: each operation on links that are inspected first. Where they are not sound, or it does not fit, nothing is done.
 
+// A slot comes to the front.
 pub fn push(l: Links) -> Links {
     let head = l.head;
     let mut next = l.next;
@@ -72,6 +70,7 @@ pub fn push(l: Links) -> Links {
     }
 }
 
+// A slot leaves, and comes on the stack.
 pub fn remove(l: Links, slot: u64) -> Links {
     let head = l.head;
     let mut next = l.next;
@@ -96,6 +95,7 @@ pub fn remove(l: Links, slot: u64) -> Links {
     }
 }
 
+// A slot of the list comes to the front.
 fn raise(l: Links, slot: u64) -> Links {
     let head = l.head;
     let mut next = l.next;
@@ -120,6 +120,7 @@ fn raise(l: Links, slot: u64) -> Links {
     }
 }
 
+// So many slots leave by the back.
 pub fn evict(l: Links, leave: u64) -> Links {
     let head = l.head;
     let mut next = l.next;
@@ -141,6 +142,7 @@ pub fn evict(l: Links, leave: u64) -> Links {
     }
 }
 
+// Every slot leaves.
 fn clear(l: Links) -> Links {
     let head = l.head;
     let mut next = l.next;
@@ -188,6 +190,7 @@ struct Plan {
     leave: u64,
 }
 
+// A turn on n slots, by two draws.
 fn planned(r: u64, q: u64, n: u64) -> Plan {
     let some = 1 + (q / 256) % 3;
     Plan {
@@ -197,6 +200,7 @@ fn planned(r: u64, q: u64, n: u64) -> Plan {
     }
 }
 
+// A turn's operation on the list.
 fn act(l: Links, t: Plan, slot: u64) -> Links {
     let kind = t.kind;
     if kind == PUSH {
@@ -214,6 +218,7 @@ fn act(l: Links, t: Plan, slot: u64) -> Links {
     clear(l)
 }
 
+// The same operation on the plain side.
 fn plain_act(o: Order, t: Plan) -> Order {
     let kind = t.kind;
     if kind == PUSH {
@@ -253,6 +258,7 @@ fn noted(tally: [u64; 6], kind: u64, agreed: bool) -> [u64; 6] {
     out
 }
 
+// One turn on both sides, which are then compared.
 fn turn(w: World) -> World {
     let l = w.links;
     let o = w.order;

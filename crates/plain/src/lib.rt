@@ -17,6 +17,7 @@ pub fn set(list: &mut [u64], i: u64, v: u64) {
     }
 }
 
+// A 32-bit number as one of 64 bits.
 pub fn wide(x: u32) -> u64 {
     x as u64
 }
@@ -31,18 +32,22 @@ pub fn plus(x: u64, y: u64) -> u64 {
     std::num::wrapping_add_u64(x, y)
 }
 
+// One more.
 pub fn more(x: u64) -> u64 {
     std::num::wrapping_add_u64(x, 1)
 }
 
+// One less.
 pub fn less(x: u64) -> u64 {
     std::num::wrapping_sub_u64(x, 1)
 }
 
+// 1 for yes, 0 for no.
 pub fn one(yes: bool) -> u64 {
     if yes { 1 } else { 0 }
 }
 
+// The first for yes, the second for no.
 pub fn pick(yes: bool, a: u64, b: u64) -> u64 {
     if yes { a } else { b }
 }

@@ -180,6 +180,7 @@ pub fn nth(list: &[u64; 16], i: u64) -> u64 {
     if j < 16 { list[j] } else { 0 }
 }
 
+// The same of 32-bit numbers.
 pub fn nth_short(list: &[u32; 16], i: u64) -> u64 {
     let j = i as usize;
     if j < 16 { wide(list[j]) } else { 0 }

@@ -17,6 +17,7 @@ ghost use Rattle.table_drive.specs.Tests.{Proper, Ready};
 
 const N: usize = 16;
 
+// A slot as an index.
 fn wide(x: u32) -> usize
     ensures { λ r. ⌜ r ≡ x ⌝ }
 {
@@ -134,6 +135,7 @@ const WRONG: u64 = 6;
 
 const NOTHING: u64 = 7;
 
+// What a search came to, where it found what the scan finds and read at most live + 1 cells.
 fn agree(got: u32, want: u32, count: usize, live: u32, what: u64) -> u64 {
     if got != want {
         return WRONG;
@@ -163,6 +165,7 @@ fn search(cells: &[u32], codes: &[u64], next: &[u32], front: u32, live: u32, cod
     }
 }
 
+// The same of a table by value.
 fn searched(t: Table, code: u64) -> u64 {
     let cells = t.cells;
     let codes = t.codes;
@@ -170,13 +173,15 @@ fn searched(t: Table, code: u64) -> u64 {
     search(&cells, &codes, &next, t.front, t.live, code)
 }
 
-// ---- the acts: each on a table that is tested first. What it came to, and the table that it left.
+// ---- the acts: each on a table that is tested first
 
+// What an act came to, and the table that it left.
 struct Done {
     table: Table,
     what: u64,
 }
 
+// Nothing was changed.
 fn unchanged(t: Table, what: u64) -> Done {
     Done { table: t, what }
 }
@@ -276,6 +281,7 @@ fn take(
     }
 }
 
+// The slot behind a slot, none past the end.
 fn link_of(next: &[u32; 16], slot: u32) -> u32 {
     let s = wide(slot);
     if s < 16 { next[s] } else { Head::NONE }
@@ -330,10 +336,12 @@ fn remove_one(t: Table, code: u64, by_cell: bool) -> Done {
     }
 }
 
+// Makes the cells empty.
 fn wipe(cells: &mut [u32; 32]) {
     table::clear(cells, N);
 }
 
+// No slot is on the links any more.
 fn clear_all(t: Table) -> Done {
     let mut cells = t.cells;
     wipe(&mut cells);
@@ -362,6 +370,7 @@ fn renew(
     true
 }
 
+// The same of a table by value.
 fn renew_all(t: Table) -> Done {
     let mut cells = t.cells;
     let codes = t.codes;
@@ -402,12 +411,14 @@ fn act(t: Table, said: u64, code: u64, draw: u64) -> Done {
 
 // ---- the rounds
 
+// What is carried from round to round.
 struct Run {
     table: Table,
     seed: u64,
     counts: [u64; 8],
 }
 
+// Counts one more.
 fn counted(counts: [u64; 8], what: u64) -> [u64; 8] {
     let mut out = counts;
     let i = what as usize;
@@ -457,6 +468,7 @@ fn rounds(k: usize) -> Run {
     r
 }
 
+// How many searches there were.
 fn tell_searches(counts: [u64; 8]) {
     say(
         b"found where the scan finds, count within live + 1",
@@ -468,6 +480,7 @@ fn tell_searches(counts: [u64; 8]) {
     );
 }
 
+// How many acts there were.
 fn tell_acts(counts: [u64; 8]) {
     say(b"inserted", counts[2]);
     say(b"removed", counts[3]);
