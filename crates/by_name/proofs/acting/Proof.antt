@@ -1,60 +1,59 @@
 -- `by_name::acting` meets its contract: each call is that of the command asked.
 -- Assumes nothing.
 use Rattle.by_name.proofs.Naming.{serves-as, none-acting}
-use borrow.Author.Needs.{needs}
 use Rattle.by_name.proofs.acting.Statement.{statement}
 use Rattle.by_name.proofs.acting.Tie as tie
 
 enum-known-command : tie.Need-enum-known-command
-enum-known-command c = search needs
+enum-known-command c = c .match .keys1
 
 get-requires : tie.Need-get-requires
 get-requires c κs = tt
 
 enum-known-command-2 : tie.Need-enum-known-command-2
-enum-known-command-2 c = search needs
+enum-known-command-2 c = c .match .keys2
 
 pop-requires : tie.Need-pop-requires
 pop-requires c κs = tt
 
 enum-told : tie.Need-enum-told
-enum-told c = search needs
+enum-told c = c .match .keys3
 
 pop-front-requires : tie.Need-pop-front-requires
 pop-front-requires c κs = tt
 
 enum-told-2 : tie.Need-enum-told-2
-enum-told-2 c = search needs
+enum-told-2 c = c .match .keys4
 
 pop-back-requires : tie.Need-pop-back-requires
 pop-back-requires c κs = tt
 
 enum-told-3 : tie.Need-enum-told-3
-enum-told-3 c = search needs
+enum-told-3 c = c .match .keys5
 
 clear-requires : tie.Need-clear-requires
 clear-requires c κs = tt
 
 enum-known-command-3 : tie.Need-enum-known-command-3
-enum-known-command-3 c = search needs
+enum-known-command-3 c = c .match .keys6
 
 get-mut-requires : tie.Need-get-mut-requires
 get-mut-requires c κs = tt
 
 enum-known-command-4 : tie.Need-enum-known-command-4
-enum-known-command-4 c = search needs
+enum-known-command-4 c = c .match .keys7
 
 peek-mut-requires : tie.Need-peek-mut-requires
 peek-mut-requires c κs = tt
 
 enum-known-command-5 : tie.Need-enum-known-command-5
-enum-known-command-5 c = search needs
+enum-known-command-5 c = c .match .keys8
 
 front-mut-requires : tie.Need-front-mut-requires
 front-mut-requires c κs = tt
 
 enum-known-command-6 : tie.Need-enum-known-command-6
-enum-known-command-6 c = search needs
+enum-known-command-6 c = c .match .keys9
 
 back-mut-requires : tie.Need-back-mut-requires
 back-mut-requires c κs = tt

@@ -2,87 +2,86 @@
 -- Assumes nothing.
 use mathlib.Core.Path.{refl}
 use Rattle.by_name.proofs.Naming.{form-as}
-use borrow.Author.Needs.{needs}
 use Rattle.by_name.proofs.form_of.Statement.{statement}
 use Rattle.by_name.proofs.form_of.Tie as tie
 
 enum-told : tie.Need-enum-told
-enum-told c = search needs
+enum-told c = c .match .keys1
 
 enum-told-2 : tie.Need-enum-told-2
-enum-told-2 c = search needs
+enum-told-2 c = c .match .keys2
 
 enum-told-3 : tie.Need-enum-told-3
-enum-told-3 c = search needs
+enum-told-3 c = c .match .keys3
 
 enum-told-4 : tie.Need-enum-told-4
-enum-told-4 c = search needs
+enum-told-4 c = c .match .keys4
 
 enum-told-5 : tie.Need-enum-told-5
-enum-told-5 c = search needs
+enum-told-5 c = c .match .keys5
 
 enum-told-6 : tie.Need-enum-told-6
-enum-told-6 c = search needs
+enum-told-6 c = c .match .keys6
 
 enum-told-7 : tie.Need-enum-told-7
-enum-told-7 c = search needs
+enum-told-7 c = c .match .keys7
 
 enum-told-8 : tie.Need-enum-told-8
-enum-told-8 c = search needs
+enum-told-8 c = c .match .keys8
 
 enum-told-9 : tie.Need-enum-told-9
-enum-told-9 c = search needs
+enum-told-9 c = c .match .keys9
 
 enum-told-10 : tie.Need-enum-told-10
-enum-told-10 c = search needs
+enum-told-10 c = c .match .keys10
 
 enum-told-11 : tie.Need-enum-told-11
-enum-told-11 c = search needs
+enum-told-11 c = c .match .keys11
 
 enum-told-12 : tie.Need-enum-told-12
-enum-told-12 c = search needs
+enum-told-12 c = c .match .keys12
 
 enum-told-13 : tie.Need-enum-told-13
-enum-told-13 c = search needs
+enum-told-13 c = c .match .keys13
 
 enum-told-14 : tie.Need-enum-told-14
-enum-told-14 c = search needs
+enum-told-14 c = c .match .keys14
 
 enum-told-15 : tie.Need-enum-told-15
-enum-told-15 c = search needs
+enum-told-15 c = c .match .keys15
 
 enum-told-16 : tie.Need-enum-told-16
-enum-told-16 c = search needs
+enum-told-16 c = c .match .keys16
 
 enum-told-17 : tie.Need-enum-told-17
-enum-told-17 c = search needs
+enum-told-17 c = c .match .keys17
 
 enum-told-18 : tie.Need-enum-told-18
-enum-told-18 c = search needs
+enum-told-18 c = c .match .keys18
 
 enum-told-19 : tie.Need-enum-told-19
-enum-told-19 c = search needs
+enum-told-19 c = c .match .keys19
 
 enum-told-20 : tie.Need-enum-told-20
-enum-told-20 c = search needs
+enum-told-20 c = c .match .keys20
 
 enum-told-21 : tie.Need-enum-told-21
-enum-told-21 c = search needs
+enum-told-21 c = c .match .keys21
 
 enum-told-22 : tie.Need-enum-told-22
-enum-told-22 c = search needs
+enum-told-22 c = c .match .keys22
 
 enum-told-23 : tie.Need-enum-told-23
-enum-told-23 c = search needs
+enum-told-23 c = c .match .keys23
 
 enum-told-24 : tie.Need-enum-told-24
-enum-told-24 c = search needs
+enum-told-24 c = c .match .keys24
 
 enum-told-25 : tie.Need-enum-told-25
-enum-told-25 c = search needs
+enum-told-25 c = c .match .keys25
 
 enum-told-26 : tie.Need-enum-told-26
-enum-told-26 c = search needs
+enum-told-26 c = c .match .keys26
 
 returns : tie.Need-returns
 returns c = form-as (c .before .before .args .command) _ _ (c .enum-told .given .1) refl

@@ -1,42 +1,41 @@
 -- `by_name::handing` meets its contract: each call is that of the command asked.
 -- Assumes nothing.
 use Rattle.by_name.proofs.Naming.{calls-as, none-handing}
-use borrow.Author.Needs.{needs}
 use Rattle.by_name.proofs.handing.Statement.{statement}
 use Rattle.by_name.proofs.handing.Tie as tie
 
 enum-known-command : tie.Need-enum-known-command
-enum-known-command c = search needs
+enum-known-command c = c .match .keys1
 
 put-requires : tie.Need-put-requires
 put-requires c κs = tt
 
 enum-known-command-2 : tie.Need-enum-known-command-2
-enum-known-command-2 c = search needs
+enum-known-command-2 c = c .match .keys2
 
 put-with-weight-requires : tie.Need-put-with-weight-requires
 put-with-weight-requires c κs = tt
 
 enum-known-command-3 : tie.Need-enum-known-command-3
-enum-known-command-3 c = search needs
+enum-known-command-3 c = c .match .keys3
 
 retain-requires : tie.Need-retain-requires
 retain-requires c κs = tt
 
 enum-known-command-4 : tie.Need-enum-known-command-4
-enum-known-command-4 c = search needs
+enum-known-command-4 c = c .match .keys4
 
 resize-requires : tie.Need-resize-requires
 resize-requires c κs = tt
 
 enum-known-command-5 : tie.Need-enum-known-command-5
-enum-known-command-5 c = search needs
+enum-known-command-5 c = c .match .keys5
 
 put-or-modify-requires : tie.Need-put-or-modify-requires
 put-or-modify-requires c κs = tt
 
 enum-known-command-6 : tie.Need-enum-known-command-6
-enum-known-command-6 c = search needs
+enum-known-command-6 c = c .match .keys6
 
 try-put-or-modify-requires : tie.Need-try-put-or-modify-requires
 try-put-or-modify-requires c κs = tt

@@ -1,18 +1,17 @@
 -- `by_name::listing` meets its contract: each call is that of the command asked.
 -- Assumes nothing.
 use Rattle.by_name.proofs.Naming.{tells-as, none-listing}
-use borrow.Author.Needs.{needs}
 use Rattle.by_name.proofs.listing.Statement.{statement}
 use Rattle.by_name.proofs.listing.Tie as tie
 
 enum-told : tie.Need-enum-told
-enum-told c = search needs
+enum-told c = c .match .keys1
 
 list-requires : tie.Need-list-requires
 list-requires c κs = tt
 
 enum-told-2 : tie.Need-enum-told-2
-enum-told-2 c = search needs
+enum-told-2 c = c .match .keys2
 
 list-back-requires : tie.Need-list-back-requires
 list-back-requires c κs = tt

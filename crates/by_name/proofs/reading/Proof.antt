@@ -1,60 +1,59 @@
 -- `by_name::reading` meets its contract: each call is that of the command asked.
 -- Assumes nothing.
 use Rattle.by_name.proofs.Naming.{reads-as, none-reading}
-use borrow.Author.Needs.{needs}
 use Rattle.by_name.proofs.reading.Statement.{statement}
 use Rattle.by_name.proofs.reading.Tie as tie
 
 enum-told : tie.Need-enum-told
-enum-told c = search needs
+enum-told c = c .match .keys1
 
 len-requires : tie.Need-len-requires
 len-requires c κs = tt
 
 enum-told-2 : tie.Need-enum-told-2
-enum-told-2 c = search needs
+enum-told-2 c = c .match .keys2
 
 capacity-requires : tie.Need-capacity-requires
 capacity-requires c κs = tt
 
 enum-told-3 : tie.Need-enum-told-3
-enum-told-3 c = search needs
+enum-told-3 c = c .match .keys3
 
 weight-requires : tie.Need-weight-requires
 weight-requires c κs = tt
 
 enum-told-4 : tie.Need-enum-told-4
-enum-told-4 c = search needs
+enum-told-4 c = c .match .keys4
 
 is-empty-requires : tie.Need-is-empty-requires
 is-empty-requires c κs = tt
 
 enum-told-5 : tie.Need-enum-told-5
-enum-told-5 c = search needs
+enum-told-5 c = c .match .keys5
 
 is-full-requires : tie.Need-is-full-requires
 is-full-requires c κs = tt
 
 enum-told-6 : tie.Need-enum-told-6
-enum-told-6 c = search needs
+enum-told-6 c = c .match .keys6
 
 front-requires : tie.Need-front-requires
 front-requires c κs = tt
 
 enum-told-7 : tie.Need-enum-told-7
-enum-told-7 c = search needs
+enum-told-7 c = c .match .keys7
 
 back-requires : tie.Need-back-requires
 back-requires c κs = tt
 
 enum-known-command : tie.Need-enum-known-command
-enum-known-command c = search needs
+enum-known-command c = c .match .keys8
 
 peek-requires : tie.Need-peek-requires
 peek-requires c κs = tt
 
 enum-known-command-2 : tie.Need-enum-known-command-2
-enum-known-command-2 c = search needs
+enum-known-command-2 c = c .match .keys9
 
 contains-requires : tie.Need-contains-requires
 contains-requires c κs = tt

@@ -3,7 +3,6 @@
 use mathlib.Core.Path.{refl}
 use Rattle.store.specs.State.{fields}
 use Rattle.by_name.proofs.Naming.{found, keeps-reading, keeps-listing, keeps-acting, keeps-handing}
-use borrow.Author.Needs.{needs}
 use Rattle.by_name.proofs.step.Statement.{statement}
 use Rattle.by_name.proofs.step.Tie as tie
 
@@ -11,25 +10,25 @@ form-of-requires : tie.Need-form-of-requires
 form-of-requires c κs = tt
 
 enum-told : tie.Need-enum-told
-enum-told c = search needs
+enum-told c = c .match .keys1
 
 reading-requires : tie.Need-reading-requires
 reading-requires c κs = found (c .before .before .before .before .before .before .before .before .before .before .before .before .before .before .before .before .before .before .before .before .before .before .before .args .command) _ _ (c .before .before .before .before .before .before .before .before .before .before .form-of .ensures) (c .before .before .before .before .before .before .before .before .enum-told .given .1)
 
 enum-told-2 : tie.Need-enum-told-2
-enum-told-2 c = search needs
+enum-told-2 c = c .match .keys2
 
 listing-requires : tie.Need-listing-requires
 listing-requires c κs = found (c .before .before .before .before .before .before .before .before .before .before .before .before .before .before .before .before .before .before .before .before .before .before .before .before .before .before .before .args .command) _ _ (c .before .before .before .before .before .before .before .before .before .before .before .before .before .before .form-of .ensures) (c .before .before .before .before .before .before .before .before .before .before .before .before .enum-told2 .given .1)
 
 enum-told-3 : tie.Need-enum-told-3
-enum-told-3 c = search needs
+enum-told-3 c = c .match .keys3
 
 acting-requires : tie.Need-acting-requires
 acting-requires c κs = found (c .before .before .before .before .before .before .before .before .before .before .before .before .before .before .before .before .before .before .before .before .before .before .before .args .command) _ _ (c .before .before .before .before .before .before .before .before .before .before .form-of .ensures) (c .before .before .before .before .before .before .before .before .enum-told3 .given .1)
 
 enum-told-4 : tie.Need-enum-told-4
-enum-told-4 c = search needs
+enum-told-4 c = c .match .keys4
 
 handing-requires : tie.Need-handing-requires
 handing-requires c κs = found (c .before .before .before .before .before .before .before .before .before .before .before .before .before .before .before .before .before .before .before .before .before .before .before .before .before .before .before .args .command) _ _ (c .before .before .before .before .before .before .before .before .before .before .before .before .before .before .form-of .ensures) (c .before .before .before .before .before .before .before .before .before .before .before .before .enum-told4 .given .1)

@@ -2,15 +2,14 @@
 -- Assumes nothing.
 use mathlib.Core.Path.{refl}
 use Rattle.by_name.proofs.Naming.{told-as}
-use borrow.Author.Needs.{needs}
 use Rattle.by_name.proofs.told.Statement.{statement}
 use Rattle.by_name.proofs.told.Tie as tie
 
 enum-known-opened : tie.Need-enum-known-opened
-enum-known-opened c = search needs
+enum-known-opened c = c .match .keys1
 
 enum-known-opened-2 : tie.Need-enum-known-opened-2
-enum-known-opened-2 c = search needs
+enum-known-opened-2 c = c .match .keys2
 
 returns : tie.Need-returns
 returns c = told-as (c .before .before .before .args .head) (c .before .before .before .args .opened) _ _ (c .before .opened .given .1) refl
