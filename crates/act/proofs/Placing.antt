@@ -3,6 +3,9 @@
 use Prim.Native.Nat.{ℕ}
 use mathlib.Core.List.{List}
 use mathlib.Core.Path.{_≡_, refl, sym, _∙_}
+use native.Mathlib.Omega.{arith}
+use lib.Dec.{eqb, leb}
+use borrow.Author.Tests.{eqb-true, leb-true}
 use Rattle.head.specs.declared.Head.{Head}
 use Rattle.head.specs.declared.Row.{Row}
 use Rattle.head.specs.declared.Slot.{Slot}
@@ -11,6 +14,7 @@ use Rattle.model.specs.Lists.{butLast}
 use Rattle.model.specs.Desk.{Desk}
 use Rattle.model.specs.Moves.{drop, holding}
 use Rattle.model.specs.Perform.{Cache}
+use Rattle.model.proofs.Cases.{both}
 use Rattle.model.proofs.Lawful.{Takes}
 use Rattle.store.specs.Caches.{after, shed}
 use Rattle.store.specs.Acts.{Occupied, Dropped, Admits, Added, Rich, Shed, Holds, Capped}
@@ -51,7 +55,7 @@ module _ {h : Head} {f : Fields} {nx pv st cells : List ℕ} {k : ℕ} {e : Row}
     pub place-acted : {r₂ : Head} {g₂ : Fields} {nx₂ pv₂ st₂ cells₂ : List ℕ} → Added r g nx' pv' st' cells' r₂ g₂ nx₂ pv₂ st₂ cells₂ e
         → Acted (Place k e) (packed h f nx pv st cells) (packed r₂ g₂ nx₂ pv₂ st₂ cells₂)
     place-acted a =
-        acted (Place k e) refl refl
+        acted (Place k e) (λ o d. refl)
         (tails-then (shed-slots place-rich q) (q .tails) (a .tails))
         (λ c ready d.
         let es : List Row = butLast k (c .desk .entries) in
@@ -76,9 +80,15 @@ module _ {h : Head} {f : Fields} {nx pv st cells : List ℕ} {k n : ℕ} (p : Pr
     pub fit-acted : {r₂ : Head} {g₂ : Fields} {nx₂ pv₂ st₂ cells₂ : List ℕ} → Capped r g nx' pv' st' cells' r₂ g₂ nx₂ pv₂ st₂ cells₂ n
         → Acted (Fit k n) (packed h f nx pv st cells) (packed r₂ g₂ nx₂ pv₂ st₂ cells₂)
     fit-acted a =
-        acted (Fit k n) refl refl
-        (tails-then (shed-slots fit-rich q) (q .tails) (a .tails))
-        (λ c ready d. a .described (shed k c) (ready .proper .2) (q .described c (ready .named) d))
+        record {
+          tails = tails-then (shed-slots fit-rich q) (q .tails) (a .tails);
+          cells = λ c ready d e.
+              let z = both (eqb k 0) (leb (c .desk .capacity) n) e in
+              let m = leb-true (c .desk .capacity) n (z .1) in
+              let cap : r .capacity ≡ c .desk .capacity = q .described c (ready .named) d .capacity in
+              a .table (omega (arith, m, cap)) ∙ q .table (eqb-true k 0 (z .0));
+          means = λ c ready d. a .described (shed k c) (ready .proper .2) (q .described c (ready .named) d);
+        }
 
 -- ---- an entry leaves first
 
@@ -118,7 +128,7 @@ module _ {h : Head} {f : Fields} {nx pv st cells : List ℕ} {s : Slot} {k : ℕ
         → Acted (Replace s k e) (packed h f nx pv st cells) (packed r₂ g₂ nx₂ pv₂ st₂ cells₂)
     unfolding replace-prepared
     replace-acted a =
-        acted (Replace s k e) refl refl
+        acted (Replace s k e) (λ o d. refl)
         (tails-then (replace-prepared .means .room ∙ sym (p .means .room)) (q .tails) (a .tails))
         (λ c ready d.
         let i : ℕ = placeOf (s .0) (c .slots .order) in

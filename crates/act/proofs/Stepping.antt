@@ -1,15 +1,22 @@
 -- The plans that one or two calls carry out: what the calls ask, and that what they leave is what the plan says.
 -- Assumes nothing.
-use Prim.Native.Nat.{ℕ, _<_}
-use mathlib.Core.List.{List}
+use Prim.Native.Nat.{ℕ, suc, _<_}
+use mathlib.Core.Bool.{true}
+use mathlib.Core.List.{List, [], _∷_}
 use mathlib.Core.Path.{_≡_, refl}
+use native.Mathlib.Omega.{arith}
+use lib.Dec.{eqb}
 use lib.ListN.{length, set, length-set}
 use lib.Seq.{drop-set-lt}
 use Rattle.head.specs.declared.Head.{Head}
+use borrow.Author.Tests.{eqb-true}
+use Rattle.head.specs.declared.Row.{Row}
 use Rattle.head.specs.declared.Rule.{Rule}
 use Rattle.head.specs.declared.Slot.{Slot}
 use Rattle.head.specs.Fields.{Fields}
 use Rattle.head.specs.Tails.{Tail}
+use Rattle.model.specs.Lists.{marked, others}
+use Rattle.model.specs.Desk.{marks}
 use Rattle.model.specs.Perform.{Cache}
 use Rattle.list.specs.Promises.{Room, Moved}
 use Rattle.store.specs.State.{Describes, Whole}
@@ -48,6 +55,11 @@ tails-beside {f = f} {st = st} {cells = cells} a b c = record {
   table = same-tail cells;
 }
 
+-- a list that is not long at all
+emptied : (es : List Row) → eqb (length es) 0 ≡ true → es ≡ []
+emptied [] e = refl
+emptied (r ∷ es) e = let z = eqb-true (suc (length es)) 0 e in absurd (omega arith)
+
 module _ {h : Head} {f : Fields} {nx pv st cells : List ℕ} where
   -- a slot that stands in the order is occupied
   standing : {c : Cache} (s : Slot) → Stands (s .0) c → Describes h f nx pv st cells c → Occupied h f nx pv st cells (s .0)
@@ -69,7 +81,7 @@ module _ {h : Head} {f : Fields} {nx pv st cells : List ℕ} where
   pub raise-acted : {s : Slot} {r : Head} {nx' pv' : List ℕ} → Moved h r nx pv nx' pv' (s .0)
       → Acted (Raise s) (packed h f nx pv st cells) (packed r f nx' pv' st cells)
   raise-acted {s} {r} {nx'} {pv'} m =
-      acted-beside (Raise s) refl refl
+      acted-beside (Raise s) refl
       (tails-beside (same-tail (f .values)) (m .next-tail) (m .prev-tail))
       (λ c ready d. raise-described d r nx' pv' (placeOf (s .0) (c .slots .order)) (s .0) (ready .named) m)
 
@@ -81,7 +93,7 @@ module _ {h : Head} {f : Fields} {nx pv st cells : List ℕ} where
   pub set-acted : {s : Slot} {v : ℕ} {values : List ℕ} → Prepared (Set s v) (packed h f nx pv st cells) → values ≡ set (f .values) (s .0) v
       → Acted (Set s v) (packed h f nx pv st cells) (packed h (revalued f values) nx pv st cells)
   set-acted {s} {v} {values} p e =
-      acted-beside (Set s v) refl refl
+      acted-beside (Set s v) refl
       (tails-beside (value-tail v (occupied-in (standing s (p .ready .named) (p .means))) e) (same-tail nx) (same-tail pv))
       (λ c ready d. value-described d (placeOf (s .0) (c .slots .order)) (s .0) v values (ready .named) e)
 
@@ -98,7 +110,7 @@ module _ {h : Head} {f : Fields} {nx pv st cells : List ℕ} where
       → Moved h r nx pv nx' pv' (s .0)
       → Acted (Renew s v) (packed h f nx pv st cells) (packed r (revalued f values) nx' pv' st cells)
   renew-acted {s} {v} {values} {r} {nx'} {pv'} p e m =
-      acted-beside (Renew s v) refl refl
+      acted-beside (Renew s v) refl
       (tails-beside (value-tail v (occupied-in (standing s (p .ready .named) (p .means))) e) (m .next-tail) (m .prev-tail))
       (λ c ready d.
       let i : ℕ = placeOf (s .0) (c .slots .order) in
@@ -113,19 +125,23 @@ module _ {h : Head} {f : Fields} {nx pv st cells : List ℕ} where
     pub drop-acted : {s : Slot} → Dropped h f nx pv st cells r g nx' pv' st' cells' (s .0)
         → Acted (Drop s) (packed h f nx pv st cells) (packed r g nx' pv' st' cells')
     drop-acted {s} q =
-        acted (Drop s) refl refl (q .tails)
+        acted (Drop s) (λ o d. refl) (q .tails)
         (λ c ready d. q .described c (placeOf (s .0) (c .slots .order)) (ready .named) d)
 
     -- ---- a sweep
 
     pub sweep-acted : {q : Rule} → Swept h f nx pv st cells r g nx' pv' st' cells' q
         → Acted (Sweep q) (packed h f nx pv st cells) (packed r g nx' pv' st' cells')
-    sweep-acted {q} w = acted (Sweep q) refl refl (w .tails) (λ c ready d. w .described c d)
+    sweep-acted {q} w = record {
+      tails = w .tails;
+      cells = λ c ready d e. w .table c (emptied (marked (others (marks q (c .desk .entries))) (c .desk .entries)) e) d;
+      means = λ c ready d. w .described c d;
+    }
 
     -- ---- all leave
 
     pub clear-acted : Emptied h f nx pv st cells r g nx' pv' st' cells' → Acted Clear (packed h f nx pv st cells) (packed r g nx' pv' st' cells')
-    clear-acted w = acted Clear refl refl (w .tails) (λ c ready d. clear-described d r g nx' pv' st' cells' w)
+    clear-acted w = acted Clear (λ o d. refl) (w .tails) (λ c ready d. clear-described d r g nx' pv' st' cells' w)
 
   pub sweep-whole : {q : Rule} → Prepared (Sweep q) (packed h f nx pv st cells) → Whole h f nx pv st cells
   sweep-whole p = record { cache = p .cache; described = p .means }

@@ -2,19 +2,16 @@
 -- Assumes nothing.
 use Prim.Native.Nat.{ℕ}
 use mathlib.Core.Bool.{true}
-use mathlib.Core.List.{List, []}
-use mathlib.Core.Logic.{_⊎_}
+use mathlib.Core.List.{List}
 use mathlib.Core.Path.{_≡_}
 use lib.ListN.{length}
 use Rattle.head.specs.declared.Head.{Head}
 use Rattle.head.specs.Fields.{Fields, Reach}
-use Rattle.model.specs.Moves.{stay}
 use Rattle.model.specs.Perform.{Cache}
 use Rattle.store.specs.State.{Describes}
 use Rattle.store.specs.Caches.{after}
 use Rattle.rows.specs.Written.{Written}
 use Rattle.plan.specs.declared.Plan.{Plan}
-use Rattle.plan.specs.declared.Plan.the-variants.{Stay}
 use Rattle.plan.specs.States.{State, Means, TailsKept}
 use Rattle.plan.specs.Plans.{moveOf, rowsOf, Named, Ready, cellsStay}
 
@@ -24,15 +21,10 @@ pub record Prepared (p : Plan) (s : State) : Type 0 where
   pub means : Means s cache
   pub ready : Ready p cache
 
--- that, or nothing is to be done, whatever the state
-abbrev pub Actable : Plan → State → Type 0
-Actable p s = (moveOf p [] ≡ stay) ⊎ Prepared p s
-
--- every described cache that is ready has changed by the plan's move; tails stay, cells where the move lets them, everything where nothing is to be done
+-- every described cache that is ready has changed by the plan's move; tails stay, and cells where the move lets them
 pub record Acted (p : Plan) (s t : State) : Type 0 where
   pub tails : TailsKept s t
-  pub still : moveOf p [] ≡ stay → t ≡ s
-  pub cells : cellsStay (moveOf p []) ≡ true → t .cells ≡ s .cells
+  pub cells : (c : Cache) → Ready p c → Means s c → cellsStay (moveOf p (c .slots .order)) (c .desk) ≡ true → t .cells ≡ s .cells
   pub means : (c : Cache) → Ready p c → Means s c → Means t (after (moveOf p (c .slots .order)) c)
 
 -- the fields and the links are those of a cache
@@ -48,11 +40,6 @@ pub record Offered (p : Plan) (h : Head) (f : Fields) (nx pv : List ℕ) (rows :
   pub named : Named p cache
   pub room : Reach (length (rowsOf p cache)) rows
 
--- that, or nothing is to be done, whatever the state
-abbrev pub Offer : Plan → Head → Fields → List ℕ → List ℕ → Fields → Type 0
-Offer p h f nx pv rows = (p ≡ Stay) ⊎ Offered p h f nx pv rows
-
--- the plan's rows are written, and nothing where nothing is to be done
+-- the plan's rows are written
 pub record HandedOut (p : Plan) (h : Head) (f : Fields) (nx pv : List ℕ) (rows rows' : Fields) : Type 0 where
-  pub still : p ≡ Stay → rows' ≡ rows
   pub written : (c : Cache) → Named p c → Walked h f nx pv c → Written (rowsOf p c) rows rows'

@@ -6,7 +6,7 @@ use plan::Plan;
 ghost use Rattle.store.specs.State.{fields};
 ghost use Rattle.plan.specs.States.{state};
 ghost use Rattle.plan.specs.declared.Plan.the-variants.{Place, Replace, Fit};
-ghost use Rattle.act.specs.Acted.{Actable, Prepared, Acted, Offer, HandedOut};
+ghost use Rattle.act.specs.Acted.{Prepared, Acted, Offered, HandedOut};
 
 // So many leave from the back, then the row stands in front.
 fn place(
@@ -152,7 +152,7 @@ pub fn act(
     cells: &mut [u32],
     plan: Plan,
 ) -> Head
-    requires { ⌜ Actable plan (state head (now codes) (now stamps) (now values) (now weights) (now next) (now prev) (now stack) (now cells)) ⌝ }
+    requires { ⌜ Prepared plan (state head (now codes) (now stamps) (now values) (now weights) (now next) (now prev) (now stack) (now cells)) ⌝ }
     ensures { λ r. ⌜ Acted plan (state head (now (codes .entry)) (now (stamps .entry)) (now (values .entry)) (now (weights .entry)) (now (next .entry)) (now (prev .entry)) (now (stack .entry)) (now (cells .entry))) (state r (now (codes .exit)) (now (stamps .exit)) (now (values .exit)) (now (weights .exit)) (now (next .exit)) (now (prev .exit)) (now (stack .exit)) (now (cells .exit))) ⌝ }
 {
     match plan {
@@ -261,7 +261,7 @@ pub fn hand_out(
     row_values: &mut [u64],
     row_weights: &mut [u64],
 )
-    requires { ⌜ Offer plan head (fields (now codes) (now stamps) (now values) (now weights)) (now next) (now prev) (fields (now «row_codes») (now «row_stamps») (now «row_values») (now «row_weights»)) ⌝ }
+    requires { ⌜ Offered plan head (fields (now codes) (now stamps) (now values) (now weights)) (now next) (now prev) (fields (now «row_codes») (now «row_stamps») (now «row_values») (now «row_weights»)) ⌝ }
     ensures { λ _. ⌜ HandedOut plan head (fields (now (codes .entry)) (now (stamps .entry)) (now (values .entry)) (now (weights .entry))) (now (next .entry)) (now (prev .entry)) (fields (now («row_codes» .entry)) (now («row_stamps» .entry)) (now («row_values» .entry)) (now («row_weights» .entry))) (fields (now («row_codes» .exit)) (now («row_stamps» .exit)) (now («row_values» .exit)) (now («row_weights» .exit))) ⌝ }
 {
     let none = Slot(Head::NONE);

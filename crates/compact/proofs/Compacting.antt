@@ -1,30 +1,27 @@
 -- What compacting needs of a sound list, and what its steps leave together.
 -- Assumes nothing.
-use Prim.Native.Nat.{ℕ, zero, suc, _+_, _-_, _≤_}
+use Prim.Native.Nat.{ℕ, _+_, _-_, _≤_}
 use native.Mathlib.Omega.{arith}
 use mathlib.Core.Path.{_≡_, refl, sym, ap, _∙_, subst}
-use mathlib.Core.List.{List, [], _∷_, _++_}
+use mathlib.Core.List.{List, [], _++_}
 use lib.ListN.{length, getD, take, drop, length-append, length-drop, List·getD-append}
 use lib.Seq.{take-at, drop-append-add, drop-drop}
 use Rattle.head.specs.declared.Head.{Head}
+use Rattle.head.specs.Walks.{walk}
+use Rattle.head.proofs.Walking.{walk-length}
 use Rattle.model.specs.Slots.{upFrom}
 use Rattle.list.specs.Links.{Linked}
 use Rattle.list.proofs.Stores.{tail-trans}
 use Rattle.list.proofs.Within.{in-slots, once}
-use Rattle.list.proofs.Unique.{walk, order-is}
-use Rattle.compact.specs.Plan.{walked, partners, exchanges, Fit}
+use Rattle.list.proofs.Unique.{order-is}
+use Rattle.compact.specs.Plan.{partners, exchanges, Fit}
 use Rattle.compact.specs.Anew.{HeadOf}
 use Rattle.head.specs.Fields.{Fields}
 use Rattle.compact.specs.Compact.{Exchanged, Carried, Walkable, Planned, Exchangeable, AllExchangeable, Writable, LinksWritten, Compactable, Reordered}
 use Rattle.compact.proofs.Exchanging.{carried, partners-length, partners-low}
-use Rattle.compact.proofs.Numbering.{walked-length}
 use Rattle.compact.proofs.Ascending.{written-linked}
 
 -- ---- the walk along the next links meets the order
-
-walked-walk : (nx : List ℕ) (s n : ℕ) → walked nx s n ≡ walk n s nx
-walked-walk nx s zero = refl
-walked-walk nx s (suc n) = ap (λ (l : List ℕ). s ∷ l) (walked-walk nx (getD nx s 0) n)
 
 module _ (h : Head) (nx pv st o f : List ℕ) (d : Linked h nx pv st o f []) where
   pub linked-fit : Fit 0 (h .slots) o
@@ -37,8 +34,8 @@ module _ (h : Head) (nx pv st o f : List ℕ) (d : Linked h nx pv st o f []) whe
   pub live-is : h .live ≡ length o
   live-is = omega (arith, d .live)
 
-  pub walk-is : walked nx (h .front .0) (h .live) ≡ o
-  walk-is = walked-walk nx (h .front .0) (h .live) ∙ sym (order-is d)
+  pub walk-is : walk nx (h .front .0) (h .live) ≡ o
+  walk-is = sym (order-is d)
 
   pub linked-walkable : Walkable (h .slots) (h .live) (h .front .0) nx pv st
   linked-walkable = record {
@@ -56,12 +53,12 @@ module _ (h : Head) (nx pv st : List ℕ) (g : Fields) (t : ℕ) (p : Compactabl
   pub compactable-walk : Walkable (h .slots) (h .live) (h .front .0) nx pv st
   compactable-walk = linked-walkable h nx pv st (p .sound .order) (p .sound .free) (p .sound .linked)
 
-  module _ (pv1 st1 : List ℕ) (a : Planned (h .slots) (walked nx (h .front .0) (h .live)) pv st pv1 st1) where
+  module _ (pv1 st1 : List ℕ) (a : Planned (h .slots) (walk nx (h .front .0) (h .live)) pv st pv1 st1) where
     abbrev order : List ℕ
-    order = walked nx (h .front .0) (h .live)
+    order = walk nx (h .front .0) (h .live)
 
     long : length order ≡ h .live
-    long = walked-length nx (h .front .0) (h .live)
+    long = walk-length nx (h .front .0) (h .live)
 
     abbrev row : List ℕ
     row = partners (length order) 0 order

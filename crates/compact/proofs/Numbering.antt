@@ -1,6 +1,6 @@
 -- The loop that writes the order and its places: what holds at its head.
 -- Assumes nothing.
-use Prim.Native.Nat.{ℕ, zero, suc, _+_, _-_, _≤_, _<_}
+use Prim.Native.Nat.{ℕ, suc, _+_, _-_, _≤_, _<_}
 use native.Mathlib.Omega.{arith}
 use native.Mathlib.Numerals.{add-one}
 use mathlib.Core.Path.{_≡_, refl, sym, ap, _∙_}
@@ -10,6 +10,8 @@ use lib.Dec.{eqb}
 use lib.ListN.{length, getD, set, take, drop, length-append, length-set, length-drop}
 use lib.Seq.{take-at, drop-at, drop-cons, set-at, append-snoc, getD-set-same, getD-set-other, drop-set-lt}
 use Rattle.head.specs.Bounds.{noneMark}
+use Rattle.head.specs.Walks.{walk}
+use Rattle.head.proofs.Walking.{walk-length}
 use Rattle.model.specs.Codes.{one, count}
 use Rattle.list.specs.Order.{placeAt}
 use Rattle.head.specs.Tails.{Tail}
@@ -18,13 +20,13 @@ use Rattle.list.proofs.Marks.{same?, hit}
 use Rattle.list.proofs.Stores.{tail-trans}
 use Rattle.list.proofs.Chain.{place-at}
 use Rattle.list.proofs.Stacking.{place-other}
-use Rattle.compact.specs.Plan.{walked, partners, Fit}
+use Rattle.compact.specs.Plan.{partners, Fit}
 use Rattle.compact.specs.Compact.{Walkable, Numbered, Plannable, Planned}
 
 -- `done` is written, and the walk goes on at s
 pub record Numbering (n live front : ℕ) (nx pv₀ st₀ pv st : List ℕ) (s k : ℕ) : Type 0 where
   pub done : List ℕ
-  pub whole : done ++ walked nx s (live - k) ≡ walked nx front live
+  pub whole : done ++ walk nx s (live - k) ≡ walk nx front live
   pub size : length done ≡ k
   pub le : k ≤ live
   pub cells : st ≡ done ++ drop k st₀
@@ -36,7 +38,7 @@ pub numbering-first : (n live front : ℕ) (nx pv st : List ℕ) → ((u : ℕ) 
     → Numbering n live front nx pv st pv st front 0
 numbering-first n live front nx pv st z = record {
   done = [];
-  whole = let z : live - 0 ≡ live = omega arith in ap (walked nx front) z;
+  whole = let z : live - 0 ≡ live = omega arith in ap (walk nx front) z;
   size = refl;
   le = omega arith;
   cells = refl;
@@ -45,19 +47,16 @@ numbering-first n live front nx pv st z = record {
   long = refl;
 }
 
-pub walked-length : (nx : List ℕ) (s n : ℕ) → length (walked nx s n) ≡ n
-walked-length nx s zero = refl
-walked-length nx s (suc n) = ap suc (walked-length nx (getD nx s 0) n)
-
 module _ (n live front : ℕ) (nx pv₀ st₀ pv st : List ℕ) (s k : ℕ) (w : Numbering n live front nx pv₀ st₀ pv st s k)
-    (f : Fit 0 n (walked nx front live)) (lt : k < live) where
-  whole-at : w .done ++ s ∷ walked nx (getD nx s 0) (live - suc k) ≡ walked nx front live
+    (f : Fit 0 n (walk nx front live)) (lt : k < live) where
+  whole-at : w .done ++ s ∷ walk nx (getD nx s 0) (live - suc k) ≡ walk nx front live
+  unfolding walk
   whole-at =
       let e : live - k ≡ suc (live - suc k) = omega arith in
       rw e at (w .whole)
 
-  counts : (x : ℕ) → count x (w .done) + (one (eqb x s) + count x (walked nx (getD nx s 0) (live - suc k))) ≡ count x (walked nx front live)
-  counts x = sym (count-append x (w .done) (s ∷ walked nx (getD nx s 0) (live - suc k))) ∙ ap (count x) whole-at
+  counts : (x : ℕ) → count x (w .done) + (one (eqb x s) + count x (walk nx (getD nx s 0) (live - suc k))) ≡ count x (walk nx front live)
+  counts x = sym (count-append x (w .done) (s ∷ walk nx (getD nx s 0) (live - suc k))) ∙ ap (count x) whole-at
 
   pub numbering-slot : s < n
   numbering-slot = f .low s (omega (arith, counts s, hit s s refl))
@@ -85,10 +84,11 @@ module _ (n live front : ℕ) (nx pv₀ st₀ pv st : List ℕ) (s k : ℕ) (w :
   }
 
 pub numbering-last : (n live front : ℕ) (nx pv pv₀ st₀ pv' st' : List ℕ) (s k : ℕ) → Tail n pv pv₀ → Numbering n live front nx pv₀ st₀ pv' st' s k → live ≤ k
-    → Numbered n (walked nx front live) pv st₀ pv' st'
+    → Numbered n (walk nx front live) pv st₀ pv' st'
+unfolding walk
 numbering-last n live front nx pv pv₀ st₀ pv' st' s k t w ge =
     let z : live - k ≡ 0 = omega arith in
-    let e : w .done ≡ walked nx front live = sym (append-nil (w .done)) ∙ (rw z at (w .whole)) in
+    let e : w .done ≡ walk nx front live = sym (append-nil (w .done)) ∙ (rw z at (w .whole)) in
     record {
       cells = rw (← e, w .size) (w .cells);
       places = λ u h. rw (← e) (w .places u h);
@@ -98,24 +98,24 @@ numbering-last n live front nx pv pv₀ st₀ pv' st' s k t w ge =
 -- ---- what is written, as the order that a plan starts from
 
 module _ (n live front : ℕ) (nx pv st pv' st' : List ℕ) (w : Walkable n live front nx pv st)
-    (m : Numbered n (walked nx front live) pv st pv' st') where
-  first-cells : take live st' ≡ walked nx front live
-  first-cells = ap (take live) (m .cells) ∙ take-at (walked nx front live) _ live (walked-length nx front live)
+    (m : Numbered n (walk nx front live) pv st pv' st') where
+  first-cells : take live st' ≡ walk nx front live
+  first-cells = ap (take live) (m .cells) ∙ take-at (walk nx front live) _ live (walk-length nx front live)
 
   pub numbered-plannable : Plannable n live pv' st'
   numbered-plannable = record {
     small = w .small;
     few = w .few;
     prevs = omega (arith, w .prevs, m .tail .size);
-    stacks = omega (arith, w .stacks, w .few, ap length (m .cells), walked-length nx front live, length-append (walked nx front live) (drop (length (walked nx front live)) st), length-drop (length (walked nx front live)) st);
+    stacks = omega (arith, w .stacks, w .few, ap length (m .cells), walk-length nx front live, length-append (walk nx front live) (drop (length (walk nx front live)) st), length-drop (length (walk nx front live)) st);
     fit = rw first-cells (w .fit);
     places = λ u h. rw first-cells (m .places u h);
   }
 
-  pub arranged : (pv'' st'' : List ℕ) → Planned n (take live st') pv' st' pv'' st'' → Planned n (walked nx front live) pv st pv'' st''
+  pub arranged : (pv'' st'' : List ℕ) → Planned n (take live st') pv' st' pv'' st'' → Planned n (walk nx front live) pv st pv'' st''
   arranged pv'' st'' p = record {
     cells = (rw first-cells at (p .cells))
-        ∙ ap (λ (l : List ℕ). partners (length (walked nx front live)) 0 (walked nx front live) ++ l)
-        (ap (drop (length (walked nx front live))) (m .cells) ∙ drop-at (walked nx front live) _ _ refl);
+        ∙ ap (λ (l : List ℕ). partners (length (walk nx front live)) 0 (walk nx front live) ++ l)
+        (ap (drop (length (walk nx front live))) (m .cells) ∙ drop-at (walk nx front live) _ _ refl);
     tail = tail-trans (m .tail) (p .tail);
   }

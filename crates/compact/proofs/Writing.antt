@@ -11,7 +11,7 @@ use Rattle.list.specs.Steps.{putAt}
 use Rattle.head.specs.Tails.{Tail}
 use Rattle.list.proofs.Marks.{same?, ifeq-same, ifeq-other}
 use Rattle.list.proofs.Stores.{getD-put, put-tail, tail-trans}
-use Rattle.compact.specs.Anew.{NextOf, PrevOf, StackOf, Written}
+use Rattle.compact.specs.Anew.{NextOf, PrevOf, StackOf, Filled}
 use Rattle.compact.specs.Compact.{Writable, LinksWritten}
 
 -- the first i of n numbers are as R says
@@ -35,7 +35,7 @@ begun-more n R l m k i x h lt b ex e =
     read : (j : ℕ) → j < n → getD k j 0 ≡ ifeq i j x (getD m j 0)
     read j hj = ap (λ (q : List ℕ). getD q j 0) e ∙ getD-put n m i x j (omega (arith, b .tail .size)) hj
 
-pub begun-all : (n : ℕ) (R : ℕ → ℕ → Type 0) (l m : List ℕ) (i : ℕ) → Begun n R l m i → n ≤ i → Written n R l m
+pub begun-all : (n : ℕ) (R : ℕ → ℕ → Type 0) (l m : List ℕ) (i : ℕ) → Begun n R l m i → n ≤ i → Filled n R l m
 begun-all n R l m i b ge = record { at = λ j h. b .at j (omega arith); tail = b .tail }
 
 pub record Writing (n live t : ℕ) (nx₀ pv₀ st₀ nx pv st : List ℕ) (i : ℕ) : Type 0 where

@@ -47,6 +47,6 @@ pub record StackOf (live top k r : ℕ) : Type 0 where
   pub out : top - live ≤ k → r ≡ noneMark
 
 -- the first n numbers of m are as R says of each place, the others those of l
-pub record Written (n : ℕ) (R : ℕ → ℕ → Type 0) (l m : List ℕ) : Type 0 where
+pub record Filled (n : ℕ) (R : ℕ → ℕ → Type 0) (l m : List ℕ) : Type 0 where
   pub at : (i : ℕ) → i < n → R i (getD m i 0)
   pub tail : Tail n l m

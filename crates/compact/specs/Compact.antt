@@ -13,9 +13,10 @@ use Rattle.model.specs.Codes.{count}
 use Rattle.model.specs.Slots.{upFrom}
 use Rattle.list.specs.Order.{placeAt}
 use Rattle.head.specs.Tails.{Tail}
+use Rattle.head.specs.Walks.{walk}
 use Rattle.list.specs.Links.{Linked, Sound, Rest}
-use Rattle.compact.specs.Plan.{walked, partners, exchanges, Fit}
-use Rattle.compact.specs.Anew.{NextOf, PrevOf, StackOf, Written}
+use Rattle.compact.specs.Plan.{partners, exchanges, Fit}
+use Rattle.compact.specs.Anew.{NextOf, PrevOf, StackOf, Filled}
 use Rattle.head.specs.Fields.{Fields, Reach}
 
 -- four lent lists as they stand
@@ -72,7 +73,7 @@ pub record Walkable (n live front : ℕ) (nx pv st : List ℕ) : Type 0 where
   pub nexts : n ≤ length nx
   pub prevs : n ≤ length pv
   pub stacks : n ≤ length st
-  pub fit : Fit 0 n (walked nx front live)
+  pub fit : Fit 0 n (walk nx front live)
 
 -- the order stands in the stack's cells, and each slot's place in it in prev; none for the slots outside
 pub record Numbered (n : ℕ) (order pv st pv' st' : List ℕ) : Type 0 where
@@ -118,9 +119,9 @@ pub record Writable (n live t : ℕ) (nx pv st : List ℕ) : Type 0 where
 
 -- the links of n slots are those of `live` entries in the slots 0, 1 and so on, with the slots from there to t on the stack
 pub record LinksWritten (n live t : ℕ) (nx pv st nx' pv' st' : List ℕ) : Type 0 where
-  pub nexts : Written n (NextOf live) nx nx'
-  pub prevs : Written n (PrevOf live t) pv pv'
-  pub stacks : Written n (StackOf live t) st st'
+  pub nexts : Filled n (NextOf live) nx nx'
+  pub prevs : Filled n (PrevOf live t) pv pv'
+  pub stacks : Filled n (StackOf live t) st st'
 
 -- a sound list whose entries can come to the slots below t
 pub record Compactable (h : Head) (nx pv st : List ℕ) (f : Fields) (t : ℕ) : Type 0 where

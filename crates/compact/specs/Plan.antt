@@ -6,11 +6,6 @@ use lib.ListN.{getD, set}
 use Rattle.model.specs.Codes.{count}
 use Rattle.list.specs.Order.{ifeq}
 
--- the n slots from s on, by their next links
-abbrev pub walked : List ℕ → ℕ → ℕ → List ℕ
-walked nx s zero = []
-walked nx s (suc n) = s ∷ walked nx (getD nx s 0) n
-
 -- s where a stood
 abbrev pub renamed : ℕ → ℕ → List ℕ → List ℕ
 renamed a s [] = []

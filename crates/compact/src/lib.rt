@@ -8,14 +8,15 @@ ghost use mathlib.Core.Path.{_≡_};
 ghost use Prim.Native.Nat.{_≤_, _<_, min};
 ghost use Rattle.head.specs.Bounds.{noneMark, mostSlots};
 ghost use lib.ListN.{length, take};
-ghost use Rattle.compact.specs.Plan.{walked, exchanged, exchanges};
-ghost use Rattle.compact.specs.Anew.{HeadOf, FrontOf, BackOf, NextOf, PrevOf, StackOf, Written};
+ghost use Rattle.head.specs.Walks.{walk};
+ghost use Rattle.compact.specs.Plan.{exchanged, exchanges};
+ghost use Rattle.compact.specs.Anew.{HeadOf, FrontOf, BackOf, NextOf, PrevOf, StackOf, Filled};
 ghost use Rattle.compact.specs.Compact.{fields, fields₀, fields₁, Walkable, Numbered, Plannable, Planned, Exchangeable, AllExchangeable, Exchanged, Writable, LinksWritten, Compactable, Reordered, Resizable, Resized};
 
 // No slot has a place.
 fn unplace(prev: &mut [u32], n: u32)
     requires { ⌜ n ≤ length (now prev) ⌝ }
-    ensures { λ _. ⌜ Written n (λ _ r. r ≡ noneMark) (now (prev .entry)) (now (prev .exit)) ⌝ }
+    ensures { λ _. ⌜ Filled n (λ _ r. r ≡ noneMark) (now (prev .entry)) (now (prev .exit)) ⌝ }
 {
     let mut i: u32 = 0;
     while i < n {
@@ -27,7 +28,7 @@ fn unplace(prev: &mut [u32], n: u32)
 // Writes the order into the stack's cells, front first, and each slot's place in it into prev, none for the slots outside it.
 fn number(front: u32, next: &[u32], prev: &mut [u32], stack: &mut [u32], n: u32, live: u32)
     requires { ⌜ Walkable n live front (now next) (now prev) (now stack) ⌝ }
-    ensures { λ _. ⌜ Numbered n (walked (now (next .entry)) front live) (now (prev .entry)) (now (stack .entry)) (now (prev .exit)) (now (stack .exit)) ⌝ }
+    ensures { λ _. ⌜ Numbered n (walk (now (next .entry)) front live) (now (prev .entry)) (now (stack .entry)) (now (prev .exit)) (now (stack .exit)) ⌝ }
 {
     unplace(prev, n);
     let mut s = front;
@@ -59,7 +60,7 @@ fn plan(prev: &mut [u32], stack: &mut [u32], n: u32, live: u32)
 // Leaves in the stack's cells the row of exchanges that brings each entry to its place.
 fn arrange(front: u32, next: &[u32], prev: &mut [u32], stack: &mut [u32], n: u32, live: u32)
     requires { ⌜ Walkable n live front (now next) (now prev) (now stack) ⌝ }
-    ensures { λ _. ⌜ Planned n (walked (now (next .entry)) front live) (now (prev .entry)) (now (stack .entry)) (now (prev .exit)) (now (stack .exit)) ⌝ }
+    ensures { λ _. ⌜ Planned n (walk (now (next .entry)) front live) (now (prev .entry)) (now (stack .entry)) (now (prev .exit)) (now (stack .exit)) ⌝ }
 {
     number(front, next, prev, stack, n, live);
     plan(prev, stack, n, live);

@@ -1,74 +1,81 @@
 -- What each arm of `decide` says is the verdict of its command.
 -- Assumes nothing.
-use Prim.Native.Nat.{ℕ, _+_, _≤_}
+use Prim.Native.Nat.{ℕ, _+_, _*_, _≤_}
 use mathlib.Core.Bool.{Bool}
 use mathlib.Core.List.{List, reverse}
-use mathlib.Core.Path.{_≡_, refl, sym, ap, _∙_}
+use mathlib.Core.Path.{_≡_, refl, sym, _∙_}
 use native.Mathlib.Omega.{arith}
 use lib.Dec.{eqb, leb·zero}
 use lib.ListN.{length, length-reverse}
 use Rattle.head.specs.declared.Head.{Head}
 use Rattle.head.specs.declared.Code.{Code}
-use Rattle.head.specs.declared.Row.{Row}
 use Rattle.head.specs.declared.Rule.{Rule}
 use Rattle.head.specs.declared.Answer.the-variants.{Done, Count, Flag}
 use Rattle.head.specs.declared.Command.{Command}
 use Rattle.head.specs.declared.Command.the-variants.{Len, Capacity, Weight, IsEmpty, IsFull, Front, Back, Peek, Contains, List as ListFront, ListBack, Get, Pop, PopFront, PopBack, Put, PutWithWeight, Clear, Retain, Resize, PutOrModify, TryPutOrModify, GetMut, PeekMut, FrontMut, BackMut}
 use Rattle.head.specs.Bounds.{mostCapacity}
 use Rattle.model.specs.Desk.{Desk, first, last}
-use Rattle.model.specs.Moves.{stay}
 use Rattle.model.specs.Calls.{Verdict, listing, containsCall, peekCall, getCall, popCall, getMutCall, putCall, putWithWeightCall, putOrModifyCall, tryPutOrModifyCall, retainCall, resizeCall}
-use Rattle.model.specs.Perform.{Cache, verdict, handed}
-use Rattle.store.specs.State.{Describes}
+use Rattle.model.specs.Perform.{Cache, verdict}
+use Rattle.table.specs.declared.Search.{Search}
+use Rattle.table.specs.Sound.{Gapped}
 use Rattle.store.proofs.Described.{order-live}
+use Rattle.store.proofs.Searching.{search-open}
 use Rattle.rows.specs.Views.{Forward, Weighted}
 use Rattle.rows.proofs.Callers.{forward, weighted}
 use Rattle.plan.specs.declared.Decision.{Decision}
 use Rattle.plan.specs.declared.Plan.the-variants.{List as PlanList, ListBack as PlanListBack, Clear as PlanClear}
 use Rattle.plan.specs.Plans.{said}
 use Rattle.plan.specs.States.{State, Means, Sound}
-use Rattle.decide.specs.Views.{Some, Coded, Valued, Loaded}
+use Rattle.decide.specs.declared.Wanted.{Wanted}
+use Rattle.decide.specs.declared.Wanted.the-variants.{For, Nothing}
+use Rattle.decide.specs.Views.{Some, Sought, Loaded}
 use Rattle.decide.specs.Settled.{Settles, Always, peekMutCall}
-use Rattle.decide.specs.Numbers.{fitted, Ending, Readable, shown, popped, assigned}
+use Rattle.decide.specs.Wants.{wantedBy, searchFor}
+use Rattle.decide.specs.Numbers.{fitted, Ending, Readable, Reached, shown, popped, assigned}
+use Rattle.decide.proofs.Pointing.{reaches}
 use Rattle.decide.proofs.Putting.{fitted-means, fitted-named}
 use Rattle.decide.proofs.Ends.{front-ends, back-ends, end-reached, shown-means, shown-named, popped-means, popped-named, assigned-means, assigned-named}
+
+-- the answer of a search in a state's table
+abbrev answerIn : State → Wanted → Search
+answerIn s w = searchFor w (s .head .slots) (s .cells) (s .fields .codes)
 
 module _ {s : State} where
   -- ---- a described state, as the deciding functions see it
 
-  coded : (c : Cache) → Means s c → Coded (s .head) (s .fields .codes) (s .cells) c
-  coded c d = record {
-    stamps = s .fields .stamps;
-    values = s .fields .values;
-    weights = s .fields .weights;
-    nexts = s .nexts;
-    prevs = s .prevs;
-    stack = s .stack;
-    described = d;
-  }
-
-  valued : (c : Cache) → Means s c → Valued (s .head) (s .fields .codes) (s .fields .values) (s .cells) c
-  valued c d = record {
+  -- the search for a code was made in its table
+  looked : (k : Code) {a : Search} → a ≡ answerIn s (For k) → (c : Cache) → Means s c → Sought (s .head) (s .fields .values) a (k .0) c
+  looked k q c d = record {
+    codes = s .fields .codes;
     stamps = s .fields .stamps;
     weights = s .fields .weights;
     nexts = s .nexts;
     prevs = s .prevs;
     stack = s .stack;
+    cells = s .cells;
     described = d;
+    answer = q;
   }
 
-  loaded : (c : Cache) → Means s c → Loaded (s .head) (s .fields .codes) (s .fields .values) (s .fields .weights) (s .prevs) (s .cells) c
-  loaded c d = record { stamps = s .fields .stamps; nexts = s .nexts; stack = s .stack; described = d }
+  loaded : (k : Code) {a : Search} → a ≡ answerIn s (For k) → (c : Cache) → Means s c → Loaded (s .head) (s .fields .values) (s .fields .weights) (s .prevs) a (k .0) c
+  loaded k q c d = record { searched = looked k q c d; weighted = weighted d }
 
   module _ (w : Sound s) where
-    pub some-coded : Some (Coded (s .head) (s .fields .codes) (s .cells))
-    some-coded = record { cache = w .cache; seen = coded (w .cache) (w .described) }
+    pub opened : Gapped (2 * s .head .slots) (s .cells) (s .fields .codes)
+    opened = search-open (w .described)
 
-    pub some-valued : Some (Valued (s .head) (s .fields .codes) (s .fields .values) (s .cells))
-    some-valued = record { cache = w .cache; seen = valued (w .cache) (w .described) }
+    reached-for : (k : Wanted) {a : Search} → a ≡ answerIn s k → Reached a (s .fields .values)
+    reached-for (For k) {a} q = reaches a (looked k q (w .cache) (w .described))
+    reached-for Nothing q = rw q tt
 
-    pub some-loaded : Some (Loaded (s .head) (s .fields .codes) (s .fields .values) (s .fields .weights) (s .prevs) (s .cells))
-    some-loaded = record { cache = w .cache; seen = loaded (w .cache) (w .described) }
+    pub search-reached : (m : Command) {a : Search} → a ≡ answerIn s (wantedBy m) → Reached a (s .fields .values)
+    search-reached m q = reached-for (wantedBy m) q
+
+    pub some-loaded : {m : Command} {a : Search} {k : Code} {t v u : ℕ} → m ≡ PutWithWeight k t v u
+        → a ≡ answerIn s (wantedBy m) → Some (Loaded (s .head) (s .fields .values) (s .fields .weights) (s .prevs) a (k .0))
+    unfolding wantedBy
+    some-loaded {k = k} e q = record { cache = w .cache; seen = loaded k (rw e at q) (w .cache) (w .described) }
 
     pub some-forward : Some (Forward (s .head) (s .fields) (s .nexts))
     some-forward = record { cache = w .cache; seen = forward (w .described) }
@@ -96,6 +103,10 @@ module _ {s : State} where
   -- what is settled for a view is settled for the state
   seen-by : (P : Cache → Type 0) {call : Desk → Verdict} {lent : ℕ} {r : Decision} → ((c : Cache) → Means s c → P c) → Settles P call lent r → Settles (Means s) call lent r
   seen-by P v p = record { means = λ c d. p .means c (v c d); named = λ c d. p .named c (v c d) }
+
+  by-code : (k : Code) {a : Search} {call : Desk → Verdict} {lent : ℕ} {r : Decision} → a ≡ answerIn s (For k)
+      → Settles (Sought (s .head) (s .fields .values) a (k .0)) call lent r → Settles (Means s) call lent r
+  by-code k {a} q p = seen-by (Sought (s .head) (s .fields .values) a (k .0)) (looked k q) p
 
   module _ {m : Command} {lent : ℕ} {r : Decision} where
     -- ---- totals
@@ -206,47 +217,51 @@ module _ {s : State} where
           named = λ c d. assigned-named d (s .head .back) (last (c .desk .entries)) (back-ends d) v;
         })
 
-    -- ---- by code, by rule, by capacity
+    -- ---- by code
 
-    pub peek-arm : {k : Code} → m ≡ Peek k → Always (Valued (s .head) (s .fields .codes) (s .fields .values) (s .cells)) (peekCall (k .0)) r → Settles (Means s) (verdict m) lent r
-    unfolding verdict
-    peek-arm e p = rw e (seen-by (Valued (s .head) (s .fields .codes) (s .fields .values) (s .cells)) valued (p lent))
+    module _ {a : Search} (q : a ≡ answerIn s (wantedBy m)) where
+      pub contains-arm : {k : Code} → m ≡ Contains k → ((h : Head) (values : List ℕ) (code : ℕ) → Always (Sought h values a code) (containsCall code) r) → Settles (Means s) (verdict m) lent r
+      unfolding verdict wantedBy
+      contains-arm {k} e p = rw e (by-code k (rw e at q) (p (s .head) (s .fields .values) (k .0) lent))
 
-    pub contains-arm : {k : Code} → m ≡ Contains k → Always (Coded (s .head) (s .fields .codes) (s .cells)) (containsCall (k .0)) r → Settles (Means s) (verdict m) lent r
-    unfolding verdict
-    contains-arm e p = rw e (seen-by (Coded (s .head) (s .fields .codes) (s .cells)) coded (p lent))
+      pub peek-arm : {k : Code} → m ≡ Peek k → ((h : Head) (code : ℕ) → Always (Sought h (s .fields .values) a code) (peekCall code) r) → Settles (Means s) (verdict m) lent r
+      unfolding verdict wantedBy
+      peek-arm {k} e p = rw e (by-code k (rw e at q) (p (s .head) (k .0) lent))
 
-    pub get-arm : {k : Code} → m ≡ Get k → Always (Valued (s .head) (s .fields .codes) (s .fields .values) (s .cells)) (getCall (k .0)) r → Settles (Means s) (verdict m) lent r
-    unfolding verdict
-    get-arm e p = rw e (seen-by (Valued (s .head) (s .fields .codes) (s .fields .values) (s .cells)) valued (p lent))
+      pub get-arm : {k : Code} → m ≡ Get k → ((h : Head) (code : ℕ) → Always (Sought h (s .fields .values) a code) (getCall code) r) → Settles (Means s) (verdict m) lent r
+      unfolding verdict wantedBy
+      get-arm {k} e p = rw e (by-code k (rw e at q) (p (s .head) (k .0) lent))
 
-    pub pop-arm : {k : Code} → m ≡ Pop k → Always (Valued (s .head) (s .fields .codes) (s .fields .values) (s .cells)) (popCall (k .0)) r → Settles (Means s) (verdict m) lent r
-    unfolding verdict
-    pop-arm e p = rw e (seen-by (Valued (s .head) (s .fields .codes) (s .fields .values) (s .cells)) valued (p lent))
+      pub pop-arm : {k : Code} → m ≡ Pop k → ((h : Head) (code : ℕ) → Always (Sought h (s .fields .values) a code) (popCall code) r) → Settles (Means s) (verdict m) lent r
+      unfolding verdict wantedBy
+      pop-arm {k} e p = rw e (by-code k (rw e at q) (p (s .head) (k .0) lent))
 
-    pub get-mut-arm : {k : Code} {v : ℕ} → m ≡ GetMut k v → Always (Valued (s .head) (s .fields .codes) (s .fields .values) (s .cells)) (getMutCall (k .0) v) r → Settles (Means s) (verdict m) lent r
-    unfolding verdict
-    get-mut-arm e p = rw e (seen-by (Valued (s .head) (s .fields .codes) (s .fields .values) (s .cells)) valued (p lent))
+      pub get-mut-arm : {k : Code} {v : ℕ} → m ≡ GetMut k v → ((code : ℕ) → Always (Sought (s .head) (s .fields .values) a code) (getMutCall code v) r) → Settles (Means s) (verdict m) lent r
+      unfolding verdict wantedBy
+      get-mut-arm {k} e p = rw e (by-code k (rw e at q) (p (k .0) lent))
 
-    pub peek-mut-arm : {k : Code} {v : ℕ} → m ≡ PeekMut k v → Always (Valued (s .head) (s .fields .codes) (s .fields .values) (s .cells)) (peekMutCall (k .0) v) r → Settles (Means s) (verdict m) lent r
-    unfolding verdict
-    peek-mut-arm e p = rw e (seen-by (Valued (s .head) (s .fields .codes) (s .fields .values) (s .cells)) valued (p lent))
+      pub peek-mut-arm : {k : Code} {v : ℕ} → m ≡ PeekMut k v → ((code : ℕ) → Always (Sought (s .head) (s .fields .values) a code) (peekMutCall code v) r) → Settles (Means s) (verdict m) lent r
+      unfolding verdict wantedBy
+      peek-mut-arm {k} e p = rw e (by-code k (rw e at q) (p (k .0) lent))
 
-    pub put-arm : {k : Code} {t : ℕ} {v : ℕ} → m ≡ Put k t v → Settles (Valued (s .head) (s .fields .codes) (s .fields .values) (s .cells)) (putCall (k .0) t v) lent r → Settles (Means s) (verdict m) lent r
-    unfolding verdict
-    put-arm e p = rw e (seen-by (Valued (s .head) (s .fields .codes) (s .fields .values) (s .cells)) valued p)
+      pub put-arm : {k : Code} {t v : ℕ} → m ≡ Put k t v → Settles (Sought (s .head) (s .fields .values) a (k .0)) (putCall (k .0) t v) lent r → Settles (Means s) (verdict m) lent r
+      unfolding verdict wantedBy
+      put-arm {k} e p = rw e (by-code k (rw e at q) p)
 
-    pub modify-arm : {k : Code} {t : ℕ} {n : ℕ} → m ≡ PutOrModify k t n → Settles (Valued (s .head) (s .fields .codes) (s .fields .values) (s .cells)) (putOrModifyCall (k .0) t n) lent r → Settles (Means s) (verdict m) lent r
-    unfolding verdict
-    modify-arm e p = rw e (seen-by (Valued (s .head) (s .fields .codes) (s .fields .values) (s .cells)) valued p)
+      pub modify-arm : {k : Code} {t n : ℕ} → m ≡ PutOrModify k t n → Settles (Sought (s .head) (s .fields .values) a (k .0)) (putOrModifyCall (k .0) t n) lent r → Settles (Means s) (verdict m) lent r
+      unfolding verdict wantedBy
+      modify-arm {k} e p = rw e (by-code k (rw e at q) p)
 
-    pub try-arm : {k : Code} {t : ℕ} {n : ℕ} {most : ℕ} → m ≡ TryPutOrModify k t n most → Settles (Valued (s .head) (s .fields .codes) (s .fields .values) (s .cells)) (tryPutOrModifyCall (k .0) t n most) lent r → Settles (Means s) (verdict m) lent r
-    unfolding verdict
-    try-arm e p = rw e (seen-by (Valued (s .head) (s .fields .codes) (s .fields .values) (s .cells)) valued p)
+      pub try-arm : {k : Code} {t n most : ℕ} → m ≡ TryPutOrModify k t n most → Settles (Sought (s .head) (s .fields .values) a (k .0)) (tryPutOrModifyCall (k .0) t n most) lent r → Settles (Means s) (verdict m) lent r
+      unfolding verdict wantedBy
+      try-arm {k} e p = rw e (by-code k (rw e at q) p)
 
-    pub weighed-arm : {k : Code} {t : ℕ} {v : ℕ} {w : ℕ} → m ≡ PutWithWeight k t v w → Settles (Loaded (s .head) (s .fields .codes) (s .fields .values) (s .fields .weights) (s .prevs) (s .cells)) (putWithWeightCall (k .0) t v w) lent r → Settles (Means s) (verdict m) lent r
-    unfolding verdict
-    weighed-arm e p = rw e (seen-by (Loaded (s .head) (s .fields .codes) (s .fields .values) (s .fields .weights) (s .prevs) (s .cells)) loaded p)
+      pub weighed-arm : {k : Code} {t v u : ℕ} → m ≡ PutWithWeight k t v u
+          → Settles (Loaded (s .head) (s .fields .values) (s .fields .weights) (s .prevs) a (k .0)) (putWithWeightCall (k .0) t v u) lent r → Settles (Means s) (verdict m) lent r
+      unfolding verdict wantedBy
+      weighed-arm {k} e p = rw e (seen-by (Loaded (s .head) (s .fields .values) (s .fields .weights) (s .prevs) a (k .0)) (loaded k (rw e at q)) p)
+
+    -- ---- by rule, by capacity
 
     pub retain-arm : {q : Rule} → m ≡ Retain q → Settles (Forward (s .head) (s .fields) (s .nexts)) (retainCall q) lent r → Settles (Means s) (verdict m) lent r
     unfolding verdict

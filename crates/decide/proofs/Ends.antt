@@ -1,12 +1,12 @@
 -- The entry at the front and the one at the back, by the slots that the head names.
 -- Assumes nothing.
-use Prim.Native.Nat.{ℕ, zero, _≤_, _<_}
+use Prim.Native.Nat.{ℕ}
 use mathlib.Core.List.{List, [], _∷_, _++_}
 use mathlib.Core.Logic.{_⊎_, inl, inr, ⊎-elim}
 use mathlib.Core.Path.{_≡_, refl, sym, ap, _∙_}
 use native.Mathlib.Omega.{arith}
 use lib.Dec.{leb·zero}
-use lib.ListN.{length, getD}
+use lib.ListN.{length}
 use borrow.Author.Tests.{eq-eqb, ne-eqb}
 use Rattle.head.specs.declared.Head.{Head}
 use Rattle.head.specs.declared.Slot.{Slot}
@@ -24,7 +24,7 @@ use Rattle.store.specs.State.{entryIn, gather, Describes}
 use Rattle.store.specs.Acts.{Writable}
 use Rattle.store.proofs.Gathered.{only-in, last-gathered}
 use Rattle.store.proofs.Described.{slot-in}
-use Rattle.plan.specs.Plans.{meant, Named, placeOf}
+use Rattle.plan.specs.Plans.{meant, Named}
 use Rattle.decide.specs.Numbers.{shown, popped, assigned}
 use Rattle.decide.proofs.Pointing.{Points, at-place, reached}
 use Rattle.decide.proofs.Finding.{kind-plain, kind-weighed}

@@ -1,49 +1,40 @@
 -- The calls that hand out rows: as many as lent, and what comes in.
 -- Assumes nothing.
-use Prim.Native.Nat.{ℕ, _+_, _-_, _*_, _≤_, _<_}
-use mathlib.Core.Bool.{Bool, true, false, cond, _&&_}
-use mathlib.Core.List.{List, [], _∷_}
-use mathlib.Core.Path.{_≡_, refl, sym, ap, _∙_}
+use Prim.Native.Nat.{ℕ, _+_, _≤_, _<_}
+use mathlib.Core.Bool.{Bool, true, false, _&&_}
+use mathlib.Core.List.{List}
+use mathlib.Core.Path.{_≡_, refl, sym, _∙_}
 use native.Mathlib.Omega.{arith}
 use lib.Dec.{eqb, leb, ltb, leb·zero}
 use lib.ListN.{length, getD}
-use borrow.Author.Tests.{le-leb, lt-leb, lt-ltb, le-ltb}
+use borrow.Author.Tests.{lt-ltb, le-ltb}
 use Rattle.head.specs.declared.Head.{Head}
 use Rattle.head.specs.declared.Slot.{Slot}
 use Rattle.head.specs.declared.Row.{Row}
-use Rattle.head.specs.declared.Rule.{Rule}
 use Rattle.head.specs.declared.Answer.{Answer}
-use Rattle.head.specs.declared.Answer.the-variants.{No, New, Was, Now, Done}
-use Rattle.head.specs.declared.Refusal.the-variants.{NotUnderstood, WrongKind, TooHeavy, OverCeiling}
-use Rattle.head.specs.Bounds.{noneMark, plainKind, capacityOk}
-use Rattle.head.specs.Rules.{weightRule}
+use Rattle.head.specs.declared.Answer.the-variants.{No, New, Now}
+use Rattle.head.specs.declared.Refusal.the-variants.{OverCeiling}
+use Rattle.head.specs.Bounds.{plainKind}
 use Rattle.head.specs.Fields.{Fields}
-use Rattle.crc.specs.Home.{homeOf}
-use Rattle.model.specs.Lists.{without, only, oldest}
-use Rattle.model.specs.Desk.{Kind, plain, weighed, kindNumber, kindOf, Desk, entry, absent, find, live, leaving, isRule, marks}
-use Rattle.model.specs.Moves.{place, replace, fit, sweep}
-use Rattle.model.specs.Calls.{Verdict, saying, refuse, admit, pushing, beside, exchange, wrongWeight, sum64, putCall, putWithWeightCall, putOrModifyCall, tryPutOrModifyCall, retainCall, resizeCall}
+use Rattle.model.specs.Lists.{oldest}
+use Rattle.model.specs.Desk.{entry, live, leaving}
+use Rattle.model.specs.Moves.{place}
+use Rattle.model.specs.Calls.{Verdict, admit, pushing, putCall, putOrModifyCall, tryPutOrModifyCall}
 use Rattle.model.specs.Perform.{Cache, handed}
 use Rattle.model.proofs.Cases.{split}
 use Rattle.table.specs.declared.Search.{Search}
 use Rattle.table.specs.declared.Search.the-variants.{Found as FoundSlot, Empty}
-use Rattle.table.specs.Cells.{sought}
-use Rattle.table.specs.Sound.{Open}
-use Rattle.store.specs.State.{fields, entryIn, Describes}
+use Rattle.store.specs.State.{Describes}
 use Rattle.store.proofs.Described.{order-live}
-use Rattle.store.proofs.Searching.{search-open}
-use Rattle.rows.specs.Views.{Forward, Weighted}
-use Rattle.rows.specs.Answers.{Budgeted, Leaves, Read, Removes}
 use Rattle.model.proofs.Handing.{oldest-length}
-use Rattle.rows.proofs.Callers.{weighted, budgeted, leaves, budgeted-but, leaves-but}
 use Rattle.plan.specs.declared.Decision.{Decision}
-use Rattle.plan.specs.declared.Plan.the-variants.{Raise, Renew, Place, Replace, Fit, Sweep}
-use Rattle.plan.specs.Plans.{said, denied, meant, Named, placeOf}
-use Rattle.decide.specs.Views.{Some, Valued, Loaded}
+use Rattle.plan.specs.declared.Plan.the-variants.{Raise, Place}
+use Rattle.plan.specs.Plans.{denied, meant, Named}
+use Rattle.decide.specs.Views.{Sought}
 use Rattle.decide.specs.Settled.{Settles}
 use Rattle.decide.specs.Numbers.{fitted, admitted, pushes, entered, modified}
-use Rattle.decide.proofs.Pointing.{points, misses, reached}
-use Rattle.decide.proofs.Finding.{kind-plain, kind-weighed}
+use Rattle.decide.proofs.Pointing.{points}
+use Rattle.decide.proofs.Finding.{says, on-plain, if-absent}
 
 -- no more leave than there are
 pub leaving-most : (b : ℕ) (es : List Row) → leaving b es ≤ length es
@@ -87,84 +78,38 @@ module _ {h : Head} {f : Fields} {nx pv st cells : List ℕ} {c : Cache} (d : De
 
 -- ---- the puts of a plain cache
 
-module _ {h : Head} {codes values cells : List ℕ} where
-  module _ {a : Search} (code : ℕ) (q : a ≡ sought (homeOf (h .slots)) (2 * h .slots) cells codes code) (p : h .kind ≡ plainKind) (lent : ℕ) where
-    module _ {cell count : ℕ} (e : a ≡ Empty cell count) where
-      pub put-none : (stamp v : ℕ) {k : ℕ} {r : Decision} → k ≡ pushes h → r ≡ admitted h lent k (entry code stamp v 0) (New k) → Settles (Valued h codes values cells) (putCall code stamp v) lent r
-      put-none stamp v {k} z w = record {
-        means = λ c s.
-            let d = s .described in
-            let o : putCall code stamp v (c .desk) ≡ admit (pushing (c .desk)) (entry code stamp v 0) (New (pushing (c .desk))) (c .desk) =
-            rw (kind-plain (c .desk .kind) (sym (d .kind) ∙ p), misses d code q e) refl in
-            ap (λ (x : Verdict). handed lent x) o
-            ∙ rw (w, z, pushes-are d)
-            (admitted-means d lent (pushing (c .desk)) (entry code stamp v 0) (New (pushing (c .desk))) (pushing-most d));
-        named = λ c s.
-            let d = s .described in
-            rw (w, z, pushes-are d)
-            (admitted-named d lent (pushing (c .desk)) (entry code stamp v 0) (New (pushing (c .desk))) (pushing-most d));
-      }
+module _ {h : Head} {values : List ℕ} {a : Search} {code : ℕ} (lent : ℕ) where
+  -- a row comes in, and as many are pushed out as it needs
+  comes-in : (row : Row) (told : ℕ → Answer) {r : Decision} → r ≡ admitted h lent (pushes h) row (told (pushes h))
+      → Settles (Sought h values a code) (λ d. admit (pushing d) row (told (pushing d)) d) lent r
+  comes-in row told w = record {
+    means = λ c v. rw (w, pushes-are (v .described)) (admitted-means (v .described) lent (pushing (c .desk)) row (told (pushing (c .desk))) (pushing-most (v .described)));
+    named = λ c v. rw (w, pushes-are (v .described)) (admitted-named (v .described) lent (pushing (c .desk)) row (told (pushing (c .desk))) (pushing-most (v .described)));
+  }
 
-      pub modify-none : (stamp n : ℕ) {r : Decision} → r ≡ entered h lent code stamp n → Settles (Valued h codes values cells) (putOrModifyCall code stamp n) lent r
-      modify-none stamp n w = record {
-        means = λ c s.
-            let d = s .described in
-            let o : putOrModifyCall code stamp n (c .desk) ≡ admit (pushing (c .desk)) (entry code stamp n 0) (Now n true (pushing (c .desk))) (c .desk) =
-            rw (kind-plain (c .desk .kind) (sym (d .kind) ∙ p), misses d code q e) refl in
-            ap (λ (x : Verdict). handed lent x) o
-            ∙ rw (w, pushes-are d)
-            (admitted-means d lent (pushing (c .desk)) (entry code stamp n 0) (Now n true (pushing (c .desk))) (pushing-most d));
-        named = λ c s.
-            let d = s .described in
-            rw (w, pushes-are d)
-            (admitted-named d lent (pushing (c .desk)) (entry code stamp n 0) (Now n true (pushing (c .desk))) (pushing-most d));
-      }
+  module _ (p : h .kind ≡ plainKind) {cell count : ℕ} (e : a ≡ Empty cell count) (stamp n : ℕ) where
+    pub put-none : {k : ℕ} {r : Decision} → k ≡ pushes h → r ≡ admitted h lent k (entry code stamp n 0) (New k) → Settles (Sought h values a code) (putCall code stamp n) lent r
+    put-none z w = on-plain lent _ p (if-absent lent _ _ e (comes-in (entry code stamp n 0) New (rw z at w)))
 
-      pub try-none-over : (stamp n most : ℕ) {r : Decision} → most < n → r ≡ denied OverCeiling → Settles (Valued h codes values cells) (tryPutOrModifyCall code stamp n most) lent r
-      try-none-over stamp n most o w = record {
-        means = λ c s.
-            let d = s .described in
-            rw (kind-plain (c .desk .kind) (sym (d .kind) ∙ p), misses d code q e, lt-ltb most n o, leb·zero lent, w) refl;
-        named = λ c s. rw w tt;
-      }
+    pub modify-none : {r : Decision} → r ≡ entered h lent code stamp n → Settles (Sought h values a code) (putOrModifyCall code stamp n) lent r
+    modify-none w = on-plain lent _ p (if-absent lent _ _ e (comes-in (entry code stamp n 0) (Now n true) w))
 
-      pub try-none : (stamp n most : ℕ) {r : Decision} → n ≤ most → r ≡ entered h lent code stamp n → Settles (Valued h codes values cells) (tryPutOrModifyCall code stamp n most) lent r
-      try-none stamp n most o w = record {
-        means = λ c s.
-            let d = s .described in
-            let t : tryPutOrModifyCall code stamp n most (c .desk) ≡ putOrModifyCall code stamp n (c .desk) =
-            rw (kind-plain (c .desk .kind) (sym (d .kind) ∙ p), misses d code q e, le-ltb most n o) refl in
-            ap (λ (x : Verdict). handed lent x) t ∙ modify-none stamp n w .means c s;
-        named = modify-none stamp n w .named;
-      }
+    pub try-none-over : (most : ℕ) {r : Decision} → most < n → r ≡ denied OverCeiling → Settles (Sought h values a code) (tryPutOrModifyCall code stamp n most) lent r
+    try-none-over most o w = on-plain lent _ p (if-absent lent _ _ e (rw (lt-ltb most n o) (says _ lent w)))
 
-    module _ {s : Slot} {cell count : ℕ} (e : a ≡ FoundSlot s cell count) where
-      pub put-found : (stamp v : ℕ) → Settles (Valued h codes values cells) (putCall code stamp v) lent (record { answer = Was (getD values (s .0) 0) 0; plan = Renew s v })
-      put-found stamp v = record {
-        means = λ c o. let d = o .described in rw (kind-plain (c .desk .kind) (sym (d .kind) ∙ p), points d code q e .found, leb·zero lent) refl;
-        named = λ c o. points (o .described) code q e .there;
-      }
+    pub try-none : (most : ℕ) {r : Decision} → n ≤ most → r ≡ entered h lent code stamp n → Settles (Sought h values a code) (tryPutOrModifyCall code stamp n most) lent r
+    try-none most o w = on-plain lent _ p (if-absent lent _ _ e (rw (le-ltb most n o) (modify-none w)))
 
-      pub modify-found : (stamp n : ℕ) {r : Decision} → r ≡ modified s (getD values (s .0) 0) n → Settles (Valued h codes values cells) (putOrModifyCall code stamp n) lent r
-      modify-found stamp n w = record {
-        means = λ c o. let d = o .described in rw (kind-plain (c .desk .kind) (sym (d .kind) ∙ p), points d code q e .found, leb·zero lent, w) refl;
-        named = λ c o. rw w (points (o .described) code q e .there);
-      }
+  module _ (p : h .kind ≡ plainKind) {s : Slot} {cell count : ℕ} (e : a ≡ FoundSlot s cell count) (stamp n : ℕ) where
+    pub modify-found : {r : Decision} → r ≡ modified s (getD values (s .0) 0) n → Settles (Sought h values a code) (putOrModifyCall code stamp n) lent r
+    modify-found w = on-plain lent _ p
+        (record { means = λ c v. rw (points v e .found, leb·zero lent, w) refl; named = λ c v. rw w (points v e .there) })
 
-      pub try-found-over : (stamp n most : ℕ) {t : Bool} → t ≡ ltb most (getD values (s .0) 0 + n) → t ≡ true
-          → Settles (Valued h codes values cells) (tryPutOrModifyCall code stamp n most) lent (record { answer = No OverCeiling; plan = Raise s })
-      try-found-over stamp n most z t = record {
-        means = λ c o.
-            let d = o .described in
-            rw (kind-plain (c .desk .kind) (sym (d .kind) ∙ p), points d code q e .found, sym z ∙ t, leb·zero lent) refl;
-        named = λ c o. points (o .described) code q e .there;
-      }
+    module _ (most : ℕ) {t : Bool} (z : t ≡ ltb most (getD values (s .0) 0 + n)) where
+      pub try-found-over : t ≡ true → Settles (Sought h values a code) (tryPutOrModifyCall code stamp n most) lent (record { answer = No OverCeiling; plan = Raise s })
+      try-found-over y = on-plain lent _ p
+          (record { means = λ c v. rw (points v e .found, sym z ∙ y, leb·zero lent) refl; named = λ c v. points v e .there })
 
-      pub try-found : (stamp n most : ℕ) {t : Bool} {r : Decision} → t ≡ ltb most (getD values (s .0) 0 + n) → t ≡ false → r ≡ modified s (getD values (s .0) 0) n
-          → Settles (Valued h codes values cells) (tryPutOrModifyCall code stamp n most) lent r
-      try-found stamp n most z t w = record {
-        means = λ c o.
-            let d = o .described in
-            rw (kind-plain (c .desk .kind) (sym (d .kind) ∙ p), points d code q e .found, sym z ∙ t, leb·zero lent, w) refl;
-        named = λ c o. rw w (points (o .described) code q e .there);
-      }
+      pub try-found : {r : Decision} → t ≡ false → r ≡ modified s (getD values (s .0) 0) n → Settles (Sought h values a code) (tryPutOrModifyCall code stamp n most) lent r
+      try-found y w = on-plain lent _ p
+          (record { means = λ c v. rw (points v e .found, sym z ∙ y) (rw (points v e .found) at (modify-found w .means c v)); named = modify-found w .named })

@@ -1,11 +1,11 @@
 -- `put_with_weight`, `retain`, `resize` and the listings: rows by a budget, by a rule, or all.
 -- Assumes nothing.
-use Prim.Native.Nat.{ℕ, _-_, _*_, _≤_, _<_}
-use mathlib.Core.Bool.{Bool, true, false, cond}
-use mathlib.Core.List.{List, [], _∷_, reverse}
+use Prim.Native.Nat.{ℕ, _-_, _≤_, _<_}
+use mathlib.Core.Bool.{Bool, true, false}
+use mathlib.Core.List.{List}
 use mathlib.Core.Path.{_≡_, refl, sym, ap, _∙_}
 use native.Mathlib.Omega.{arith}
-use lib.Dec.{leb, leb·zero}
+use lib.Dec.{leb·zero}
 use lib.ListN.{length, getD}
 use borrow.Author.Tests.{le-leb, lt-leb}
 use Rattle.head.specs.declared.Head.{Head}
@@ -17,32 +17,24 @@ use Rattle.head.specs.declared.Refusal.the-variants.{NotUnderstood, WrongKind, 
 use Rattle.head.specs.Bounds.{noneMark, capacityOk}
 use Rattle.head.specs.Rules.{weightRule}
 use Rattle.head.specs.Fields.{Fields}
-use Rattle.crc.specs.Home.{homeOf}
 use Rattle.model.specs.Lists.{without, oldest}
-use Rattle.model.specs.Desk.{Kind, plain, weighed, kindNumber, kindOf, entry, leaving}
+use Rattle.model.specs.Desk.{Kind, plain, weighed, kindNumber, kindOf, leaving}
 use Rattle.model.specs.Moves.{replace, fit, sweep}
-use Rattle.model.specs.Calls.{Verdict, admit, beside, exchange, wrongWeight, putWithWeightCall, retainCall, resizeCall, listing}
+use Rattle.model.specs.Calls.{Verdict, admit, beside, wrongWeight, putWithWeightCall, retainCall, resizeCall}
 use Rattle.model.specs.Perform.{Cache, handed}
-use Rattle.model.proofs.Counting.{sized, of-reverse}
 use Rattle.table.specs.declared.Search.{Search}
 use Rattle.table.specs.declared.Search.the-variants.{Found as FoundSlot, Empty}
-use Rattle.table.specs.Cells.{sought}
-use Rattle.table.specs.Sound.{Open}
-use Rattle.store.specs.State.{Describes}
-use Rattle.store.proofs.Described.{order-live}
-use Rattle.store.proofs.Searching.{search-open}
 use Rattle.rows.specs.Views.{Forward, Weighted}
-use Rattle.rows.specs.Answers.{removed, Budgeted, Leaves, Read, Removes}
+use Rattle.rows.specs.Answers.{removed, Budgeted, Leaves, Removes}
 use Rattle.model.proofs.Handing.{oldest-length}
 use Rattle.rows.proofs.Callers.{budgeted, leaves, budgeted-but, leaves-but}
 use Rattle.plan.specs.declared.Decision.{Decision}
-use Rattle.plan.specs.declared.Plan.the-variants.{List as ListFront, ListBack, Replace, Fit, Sweep}
-use Rattle.plan.specs.Plans.{denied, meant, Named, placeOf}
-use Rattle.plan.specs.States.{State, Means}
+use Rattle.plan.specs.declared.Plan.the-variants.{Replace, Fit, Sweep}
+use Rattle.plan.specs.Plans.{denied, placeOf}
 use Rattle.decide.specs.Views.{Some, Loaded}
 use Rattle.decide.specs.Settled.{Settles}
 use Rattle.decide.specs.Numbers.{fitted, admitted}
-use Rattle.decide.proofs.Pointing.{points, misses, reached}
+use Rattle.decide.proofs.Pointing.{points, misses}
 use Rattle.decide.proofs.Putting.{fitted-means, fitted-named, admitted-means, admitted-named, leaving-most}
 
 -- ---- `put_with_weight`
@@ -51,86 +43,75 @@ kind-of : (k : Kind) → kindOf (kindNumber k) ≡ k
 kind-of plain = refl
 kind-of weighed = refl
 
-module _ {h : Head} {codes values weights prevs cells : List ℕ} where
-  pub open-loaded : Some (Loaded h codes values weights prevs cells) → Open (2 * h .slots) cells codes
-  open-loaded s = search-open (s .seen .described)
+module _ {h : Head} {values weights prevs : List ℕ} {a : Search} (e : Row) where
+  pub loaded-budgeted : Some (Loaded h values weights prevs a (e .code .0)) → Budgeted h weights prevs noneMark
+  loaded-budgeted s = budgeted (s .seen .weighted .backward .described)
 
-  pub loaded-budgeted : Some (Loaded h codes values weights prevs cells) → Budgeted h weights prevs noneMark
-  loaded-budgeted s = budgeted (s .seen .described)
+  pub loaded-but : {s : Slot} {cell count : ℕ} → a ≡ FoundSlot s cell count → Some (Loaded h values weights prevs a (e .code .0)) → Budgeted h weights prevs (s .0)
+  loaded-but y x = budgeted-but (x .seen .weighted .backward .described) _ _ (points (x .seen .searched) y .there)
 
   -- 3, and 4
-  module _ (e : Row) (lent : ℕ) {t : Bool} (q : t ≡ wrongWeight (kindOf (h .kind)) (e .weight)) where
-    weight-test : (c : Cache) → Loaded h codes values weights prevs cells c → wrongWeight (c .desk .kind) (e .weight) ≡ t
-    weight-test c s = sym (q ∙ ap (λ (k : ℕ). wrongWeight (kindOf k) (e .weight)) (s .described .kind) ∙ ap (λ (k : Kind). wrongWeight k (e .weight)) (kind-of (c .desk .kind)))
+  module _ (lent : ℕ) {t : Bool} (q : t ≡ wrongWeight (kindOf (h .kind)) (e .weight)) where
+    weight-test : (c : Cache) → Loaded h values weights prevs a (e .code .0) c → wrongWeight (c .desk .kind) (e .weight) ≡ t
+    weight-test c v =
+        sym (q ∙ ap (λ (k : ℕ). wrongWeight (kindOf k) (e .weight)) (v .searched .described .kind) ∙ ap (λ (k : Kind). wrongWeight k (e .weight)) (kind-of (c .desk .kind)))
 
     pub wrong-kind : {r : Decision} → t ≡ true → r ≡ denied WrongKind
-        → Settles (Loaded h codes values weights prevs cells) (putWithWeightCall (e .code .0) (e .stamp) (e .value) (e .weight)) lent r
+        → Settles (Loaded h values weights prevs a (e .code .0)) (putWithWeightCall (e .code .0) (e .stamp) (e .value) (e .weight)) lent r
     wrong-kind y w = record {
       means = λ c s. rw (weight-test c s ∙ y, leb·zero lent, w) refl;
       named = λ c s. rw w tt;
     }
 
     pub too-heavy : {r : Decision} → t ≡ false → h .capacity ≤ e .weight → r ≡ denied TooHeavy
-        → Settles (Loaded h codes values weights prevs cells) (putWithWeightCall (e .code .0) (e .stamp) (e .value) (e .weight)) lent r
+        → Settles (Loaded h values weights prevs a (e .code .0)) (putWithWeightCall (e .code .0) (e .stamp) (e .value) (e .weight)) lent r
     too-heavy n o w = record {
-      means = λ c s. rw (weight-test c s ∙ n, le-leb (c .desk .capacity) (e .weight) (omega (arith, s .described .capacity)), leb·zero lent, w) refl;
+      means = λ c s. rw (weight-test c s ∙ n, le-leb (c .desk .capacity) (e .weight) (omega (arith, s .searched .described .capacity)), leb·zero lent, w) refl;
       named = λ c s. rw w tt;
     }
 
-    module _ (n : t ≡ false) (o : e .weight < h .capacity) {a : Search} (z : a ≡ sought (homeOf (h .slots)) (2 * h .slots) cells codes (e .code .0)) where
-      budget : (c : Cache) → Loaded h codes values weights prevs cells c → h .capacity - 1 - e .weight ≡ beside (e .weight) (c .desk)
-      budget c s = ap (λ (b : ℕ). b - 1 - e .weight) (s .described .capacity)
+    module _ (n : t ≡ false) (o : e .weight < h .capacity) where
+      budget : (c : Cache) → Loaded h values weights prevs a (e .code .0) c → h .capacity - 1 - e .weight ≡ beside (e .weight) (c .desk)
+      budget c s = ap (λ (b : ℕ). b - 1 - e .weight) (s .searched .described .capacity)
 
       pub weighed-none : {cell count k : ℕ} {r : Decision} → a ≡ Empty cell count → Leaves h weights prevs (h .capacity - 1 - e .weight) noneMark k
           → r ≡ admitted h lent k e (New k)
-          → Settles (Loaded h codes values weights prevs cells) (putWithWeightCall (e .code .0) (e .stamp) (e .value) (e .weight)) lent r
+          → Settles (Loaded h values weights prevs a (e .code .0)) (putWithWeightCall (e .code .0) (e .stamp) (e .value) (e .weight)) lent r
       weighed-none {k = k} y l w =
-          let many : (c : Cache) → Loaded h codes values weights prevs cells c → k ≡ leaving (beside (e .weight) (c .desk)) (c .desk .entries) =
-          λ c s. leaves (s .described) l ∙ ap (λ (b : ℕ). leaving b (c .desk .entries)) (budget c s) in
-          let few : (c : Cache) → Loaded h codes values weights prevs cells c → k ≤ length (c .desk .entries) =
+          let many : (c : Cache) → Loaded h values weights prevs a (e .code .0) c → k ≡ leaving (beside (e .weight) (c .desk)) (c .desk .entries) =
+          λ c s. leaves (s .weighted .backward .described) l ∙ ap (λ (b : ℕ). leaving b (c .desk .entries)) (budget c s) in
+          let few : (c : Cache) → Loaded h values weights prevs a (e .code .0) c → k ≤ length (c .desk .entries) =
           λ c s. rw (many c s) (leaving-most (beside (e .weight) (c .desk)) (c .desk .entries)) in
           record {
             means = λ c s.
-                let d = s .described in
+                let d = s .searched .described in
                 let v : putWithWeightCall (e .code .0) (e .stamp) (e .value) (e .weight) (c .desk) ≡ admit k e (New k) (c .desk) =
-                rw (weight-test c s ∙ n, lt-leb (c .desk .capacity) (e .weight) (omega (arith, d .capacity)), misses d (e .code .0) z y, many c s) refl in
+                rw (weight-test c s ∙ n, lt-leb (c .desk .capacity) (e .weight) (omega (arith, d .capacity)), misses (s .searched) y, many c s) refl in
                 ap (λ (x : Verdict). handed lent x) v ∙ rw w (admitted-means d lent k e (New k) (few c s));
-            named = λ c s. rw w (admitted-named (s .described) lent k e (New k) (few c s));
+            named = λ c s. rw w (admitted-named (s .searched .described) lent k e (New k) (few c s));
           }
 
-      module _ {s : Slot} {cell count : ℕ} (y : a ≡ FoundSlot s cell count) where
-        pub loaded-but : Some (Loaded h codes values weights prevs cells) → Budgeted h weights prevs (s .0)
-        loaded-but x =
-            let d = x .seen .described in
-            budgeted-but d _ (s .0) (points d (e .code .0) z y .there)
-
-        pub loaded-readable : Some (Loaded h codes values weights prevs cells) → s .0 < length values
-        loaded-readable x =
-            let d = x .seen .described in
-            reached d (s .0) (points d (e .code .0) z y .there) .values
-
-        pub weighed-found : {k : ℕ} {r : Decision} → Leaves h weights prevs (h .capacity - 1 - e .weight) (s .0) k
-            → r ≡ fitted lent k (record { answer = Was (getD values (s .0) 0) k; plan = Replace s k e })
-            → Settles (Loaded h codes values weights prevs cells) (putWithWeightCall (e .code .0) (e .stamp) (e .value) (e .weight)) lent r
-        weighed-found {k} l w =
-            let many : (c : Cache) → Loaded h codes values weights prevs cells c
-            → k ≡ leaving (beside (e .weight) (c .desk)) (without (placeOf (s .0) (c .slots .order)) (c .desk .entries)) =
-            λ c x.
-            leaves-but (x .described) _ (s .0) (points (x .described) (e .code .0) z y .there) l
-            ∙ ap (λ (b : ℕ). leaving b (without (placeOf (s .0) (c .slots .order)) (c .desk .entries))) (budget c x) in
-            let few : (c : Cache) → Loaded h codes values weights prevs cells c → k ≤ length (without (placeOf (s .0) (c .slots .order)) (c .desk .entries)) =
-            λ c x. rw (many c x) (leaving-most (beside (e .weight) (c .desk)) (without (placeOf (s .0) (c .slots .order)) (c .desk .entries))) in
-            record {
-              means = λ c x.
-                  let d = x .described in
-                  let i : ℕ = placeOf (s .0) (c .slots .order) in
-                  let u : Verdict = record { answer = Was (getD values (s .0) 0) k; rows = oldest k (without i (c .desk .entries)); move = replace i k e } in
-                  let v : putWithWeightCall (e .code .0) (e .stamp) (e .value) (e .weight) (c .desk) ≡ u =
-                  rw (weight-test c x ∙ n, lt-leb (c .desk .capacity) (e .weight) (omega (arith, d .capacity)), points d (e .code .0) z y .found, many c x) refl in
-                  ap (λ (g : Verdict). handed lent g) v
-                  ∙ rw w (fitted-means c lent k u (record { answer = Was (getD values (s .0) 0) k; plan = Replace s k e }) (oldest-length k (without i (c .desk .entries)) (few c x)) refl);
-              named = λ c x. rw w (fitted-named c lent k (record { answer = Was (getD values (s .0) 0) k; plan = Replace s k e }) (points (x .described) (e .code .0) z y .there, few c x));
-            }
+      pub weighed-found : {s : Slot} {cell count k : ℕ} {r : Decision} → a ≡ FoundSlot s cell count → Leaves h weights prevs (h .capacity - 1 - e .weight) (s .0) k
+          → r ≡ fitted lent k (record { answer = Was (getD values (s .0) 0) k; plan = Replace s k e })
+          → Settles (Loaded h values weights prevs a (e .code .0)) (putWithWeightCall (e .code .0) (e .stamp) (e .value) (e .weight)) lent r
+      weighed-found {s} {k = k} y l w =
+          let many : (c : Cache) → Loaded h values weights prevs a (e .code .0) c
+          → k ≡ leaving (beside (e .weight) (c .desk)) (without (placeOf (s .0) (c .slots .order)) (c .desk .entries)) =
+          λ c x.
+          leaves-but (x .weighted .backward .described) _ (s .0) (points (x .searched) y .there) l
+          ∙ ap (λ (b : ℕ). leaving b (without (placeOf (s .0) (c .slots .order)) (c .desk .entries))) (budget c x) in
+          let few : (c : Cache) → Loaded h values weights prevs a (e .code .0) c → k ≤ length (without (placeOf (s .0) (c .slots .order)) (c .desk .entries)) =
+          λ c x. rw (many c x) (leaving-most (beside (e .weight) (c .desk)) (without (placeOf (s .0) (c .slots .order)) (c .desk .entries))) in
+          record {
+            means = λ c x.
+                let i : ℕ = placeOf (s .0) (c .slots .order) in
+                let u : Verdict = record { answer = Was (getD values (s .0) 0) k; rows = oldest k (without i (c .desk .entries)); move = replace i k e } in
+                let v : putWithWeightCall (e .code .0) (e .stamp) (e .value) (e .weight) (c .desk) ≡ u =
+                rw (weight-test c x ∙ n, lt-leb (c .desk .capacity) (e .weight) (omega (arith, x .searched .described .capacity)), points (x .searched) y .found, many c x) refl in
+                ap (λ (g : Verdict). handed lent g) v
+                ∙ rw w (fitted-means c lent k u (record { answer = Was (getD values (s .0) 0) k; plan = Replace s k e }) (oldest-length k (without i (c .desk .entries)) (few c x)) refl);
+            named = λ c x. rw w (fitted-named c lent k (record { answer = Was (getD values (s .0) 0) k; plan = Replace s k e }) (points (x .searched) y .there, few c x));
+          }
 
 -- ---- `retain`
 

@@ -1,3 +1,4 @@
 pub mod Views
 pub mod Settled
+pub mod Wants
 pub mod Numbers

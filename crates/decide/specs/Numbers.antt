@@ -1,7 +1,7 @@
 -- Decisions that need a few numbers only.
 -- Assumes nothing.
-use Prim.Native.Nat.{ℕ, _+_, _<_}
-use mathlib.Core.Bool.{Bool, true, false, cond, not, _&&_}
+use Prim.Native.Nat.{ℕ, _<_}
+use mathlib.Core.Bool.{true, false, cond, _&&_}
 use mathlib.Core.List.{List}
 use mathlib.Core.Path.{_≡_}
 use lib.Dec.{eqb, leb}
@@ -16,6 +16,8 @@ use Rattle.head.specs.Bounds.{noneMark, plainKind}
 use Rattle.head.specs.Fields.{Fields}
 use Rattle.model.specs.Desk.{entry}
 use Rattle.model.specs.Calls.{sum64}
+use Rattle.table.specs.declared.Search.{Search}
+use Rattle.table.specs.declared.Search.the-variants.{Found, Empty}
 use Rattle.store.specs.State.{entryIn}
 use Rattle.store.specs.Acts.{Writable}
 use Rattle.plan.specs.declared.Decision.{Decision}
@@ -49,6 +51,11 @@ Ending s f = (s ≡ noneMark → ⊥) → Writable s f
 -- the slot at an end is none, or the values reach it
 abbrev pub Readable : ℕ → List ℕ → Type 0
 Readable s values = (s ≡ noneMark → ⊥) → s < length values
+
+-- a search found no slot, or the values reach it
+abbrev pub Reached : Search → List ℕ → Type 0
+Reached (Found s cell count) values = s .0 < length values
+Reached (Empty cell count) values = Unit {0}
 
 -- the entry at an end is shown
 abbrev pub shown : Fields → Slot → Decision

@@ -11,20 +11,78 @@ use plan::Decision;
 use plan::Plan;
 use table::Search;
 ghost use mathlib.Core.Path.{_≡_};
-ghost use Prim.Native.Nat.{_+_, _≤_};
+ghost use Prim.Native.Nat.{ℕ, _+_, _*_, _≤_};
 ghost use mathlib.Core.Bool.{_&&_};
+ghost use mathlib.Core.List.{List};
 ghost use lib.Dec.{eqb, ltb};
 ghost use Rattle.head.specs.Bounds.{mostCapacity, capacityOk};
 ghost use Rattle.model.specs.Desk.{kindOf};
 ghost use Rattle.model.specs.Calls.{peekCall, containsCall, getCall, popCall, getMutCall, putCall, putWithWeightCall, putOrModifyCall, tryPutOrModifyCall, retainCall, resizeCall, wrongWeight};
 ghost use Rattle.model.specs.Perform.{verdict};
+ghost use Rattle.table.specs.Sound.{Gapped};
 ghost use Rattle.store.specs.State.{fields};
 ghost use Rattle.plan.specs.States.{state, Means, Sound};
 ghost use Rattle.head.specs.declared.Answer.the-variants.{Done};
 ghost use Rattle.rows.specs.Views.{Forward, Weighted};
-ghost use Rattle.decide.specs.Views.{Some, Coded, Valued, Loaded};
+ghost use Rattle.decide.specs.Views.{Some, Sought, Loaded};
 ghost use Rattle.decide.specs.Settled.{Settles, Always, peekMutCall};
-ghost use Rattle.decide.specs.Numbers.{fitted, admitted, pushes, entered, modified, Ending, Readable, shown, popped, assigned};
+ghost use Rattle.decide.specs.Wants.{wantedBy, searchFor};
+ghost use Rattle.decide.specs.Numbers.{fitted, admitted, pushes, entered, modified, Ending, Readable, Reached, shown, popped, assigned};
+
+// What a call looks for in the table: a code, or nothing.
+enum Wanted {
+    For(Code),
+    Nothing,
+}
+
+// The code that a command looks for, if any.
+fn wanted_by(command: Command) -> Wanted
+    ensures { λ r. ⌜ r ≡ wantedBy command ⌝ }
+{
+    match command {
+        Command::Peek(code) => Wanted::For(code),
+        Command::Contains(code) => Wanted::For(code),
+        Command::Get(code) => Wanted::For(code),
+        Command::Pop(code) => Wanted::For(code),
+        Command::Put {
+            code,
+            stamp: _,
+            value: _,
+        } => Wanted::For(code),
+        Command::PutWithWeight {
+            code,
+            stamp: _,
+            value: _,
+            weight: _,
+        } => Wanted::For(code),
+        Command::PutOrModify {
+            code,
+            stamp: _,
+            amount: _,
+        } => Wanted::For(code),
+        Command::TryPutOrModify {
+            code,
+            stamp: _,
+            amount: _,
+            ceiling: _,
+        } => Wanted::For(code),
+        Command::GetMut { code, value: _ } => Wanted::For(code),
+        Command::PeekMut { code, value: _ } => Wanted::For(code),
+        _ => Wanted::Nothing,
+    }
+}
+
+// The one search of a call, for the code that its command looks for. Where it looks for none no cell is read, and nobody reads the answer.
+fn seek(head: Head, codes: &[u64], cells: &[u32], command: Command) -> Search
+    requires { ⌜ Gapped (2 * head .slots) (now cells) (now codes) ⌝ }
+    ensures { λ r. ⌜ r ≡ searchFor (wantedBy command) (head .slots) (now (cells .entry)) (now (codes .entry)) ⌝ }
+{
+    let Wanted::For(code) = wanted_by(command) else {
+        return Search::Empty { cell: 0, count: 0 };
+    };
+    let n = head.slots as usize;
+    table::look(cells, codes, n, code)
+}
 
 // 6 where there are more rows than the lists lent for them hold.
 fn within(room: usize, k: u32, decision: Decision) -> Decision
@@ -191,32 +249,31 @@ fn set_end(kind: u32, values: &[u64], slot: Slot, value: u64) -> Decision
     }
 }
 
-fn contains(head: Head, codes: &[u64], cells: &[u32], code: Code) -> Decision
-    requires { ⌜ Some (Coded head (now codes) (now cells)) ⌝ }
-    ensures { λ r. ⌜ Always (Coded head (now (codes .entry)) (now (cells .entry))) (containsCall (code .0)) r ⌝ }
+// The calls that look for a code, each by what the search for it found.
+
+fn contains(search: Search) -> Decision
+    ensures { λ r. ⌜ ((head : Head) (values : List ℕ) (code : ℕ) → Always (Sought head values search code) (containsCall code) r) ⌝ }
 {
-    let n = head.slots as usize;
     let Search::Found {
         slot: _,
         cell: _,
         count: _,
-    } = table::look(cells, codes, n, code)
+    } = search
     else {
         return Decision::say(Answer::Flag(false));
     };
     Decision::say(Answer::Flag(true))
 }
 
-fn peek(head: Head, codes: &[u64], values: &[u64], cells: &[u32], code: Code) -> Decision
-    requires { ⌜ Some (Valued head (now codes) (now values) (now cells)) ⌝ }
-    ensures { λ r. ⌜ Always (Valued head (now (codes .entry)) (now (values .entry)) (now (cells .entry))) (peekCall (code .0)) r ⌝ }
+fn peek(values: &[u64], search: Search) -> Decision
+    requires { ⌜ Reached search (now values) ⌝ }
+    ensures { λ r. ⌜ ((head : Head) (code : ℕ) → Always (Sought head (now (values .entry)) search code) (peekCall code) r) ⌝ }
 {
-    let n = head.slots as usize;
     let Search::Found {
         slot,
         cell: _,
         count: _,
-    } = table::look(cells, codes, n, code)
+    } = search
     else {
         return Decision::say(Answer::Absent);
     };
@@ -225,16 +282,15 @@ fn peek(head: Head, codes: &[u64], values: &[u64], cells: &[u32], code: Code) ->
     Decision::say(Answer::Is(value))
 }
 
-fn get(head: Head, codes: &[u64], values: &[u64], cells: &[u32], code: Code) -> Decision
-    requires { ⌜ Some (Valued head (now codes) (now values) (now cells)) ⌝ }
-    ensures { λ r. ⌜ Always (Valued head (now (codes .entry)) (now (values .entry)) (now (cells .entry))) (getCall (code .0)) r ⌝ }
+fn get(values: &[u64], search: Search) -> Decision
+    requires { ⌜ Reached search (now values) ⌝ }
+    ensures { λ r. ⌜ ((head : Head) (code : ℕ) → Always (Sought head (now (values .entry)) search code) (getCall code) r) ⌝ }
 {
-    let n = head.slots as usize;
     let Search::Found {
         slot,
         cell: _,
         count: _,
-    } = table::look(cells, codes, n, code)
+    } = search
     else {
         return Decision::say(Answer::Absent);
     };
@@ -246,16 +302,15 @@ fn get(head: Head, codes: &[u64], values: &[u64], cells: &[u32], code: Code) -> 
     }
 }
 
-fn pop(head: Head, codes: &[u64], values: &[u64], cells: &[u32], code: Code) -> Decision
-    requires { ⌜ Some (Valued head (now codes) (now values) (now cells)) ⌝ }
-    ensures { λ r. ⌜ Always (Valued head (now (codes .entry)) (now (values .entry)) (now (cells .entry))) (popCall (code .0)) r ⌝ }
+fn pop(values: &[u64], search: Search) -> Decision
+    requires { ⌜ Reached search (now values) ⌝ }
+    ensures { λ r. ⌜ ((head : Head) (code : ℕ) → Always (Sought head (now (values .entry)) search code) (popCall code) r) ⌝ }
 {
-    let n = head.slots as usize;
     let Search::Found {
         slot,
         cell: _,
         count: _,
-    } = table::look(cells, codes, n, code)
+    } = search
     else {
         return Decision::say(Answer::Absent);
     };
@@ -267,18 +322,10 @@ fn pop(head: Head, codes: &[u64], values: &[u64], cells: &[u32], code: Code) -> 
     }
 }
 
-fn get_mut(
-    head: Head,
-    codes: &[u64],
-    values: &[u64],
-    cells: &[u32],
-    code: Code,
-    value: u64,
-) -> Decision
-    requires { ⌜ Some (Valued head (now codes) (now values) (now cells)) ⌝ }
-    ensures { λ r. ⌜ Always (Valued head (now (codes .entry)) (now (values .entry)) (now (cells .entry))) (getMutCall (code .0) value) r ⌝ }
+fn get_mut(head: Head, values: &[u64], search: Search, value: u64) -> Decision
+    requires { ⌜ Reached search (now values) ⌝ }
+    ensures { λ r. ⌜ ((code : ℕ) → Always (Sought head (now (values .entry)) search code) (getMutCall code value) r) ⌝ }
 {
-    let n = head.slots as usize;
     if head.kind != Head::PLAIN {
         return Decision::refuse(Refusal::WrongKind);
     }
@@ -286,7 +333,7 @@ fn get_mut(
         slot,
         cell: _,
         count: _,
-    } = table::look(cells, codes, n, code)
+    } = search
     else {
         return Decision::say(Answer::Absent);
     };
@@ -301,18 +348,10 @@ fn get_mut(
     }
 }
 
-fn peek_mut(
-    head: Head,
-    codes: &[u64],
-    values: &[u64],
-    cells: &[u32],
-    code: Code,
-    value: u64,
-) -> Decision
-    requires { ⌜ Some (Valued head (now codes) (now values) (now cells)) ⌝ }
-    ensures { λ r. ⌜ Always (Valued head (now (codes .entry)) (now (values .entry)) (now (cells .entry))) (peekMutCall (code .0) value) r ⌝ }
+fn peek_mut(head: Head, values: &[u64], search: Search, value: u64) -> Decision
+    requires { ⌜ Reached search (now values) ⌝ }
+    ensures { λ r. ⌜ ((code : ℕ) → Always (Sought head (now (values .entry)) search code) (peekMutCall code value) r) ⌝ }
 {
-    let n = head.slots as usize;
     if head.kind != Head::PLAIN {
         return Decision::refuse(Refusal::WrongKind);
     }
@@ -320,7 +359,7 @@ fn peek_mut(
         slot,
         cell: _,
         count: _,
-    } = table::look(cells, codes, n, code)
+    } = search
     else {
         return Decision::say(Answer::Absent);
     };
@@ -337,18 +376,16 @@ fn peek_mut(
 
 fn put(
     head: Head,
-    codes: &[u64],
     values: &[u64],
-    cells: &[u32],
+    search: Search,
     room: usize,
     code: Code,
     stamp: u32,
     value: u64,
 ) -> Decision
-    requires { ⌜ Some (Valued head (now codes) (now values) (now cells)) ⌝ }
-    ensures { λ r. ⌜ Settles (Valued head (now (codes .entry)) (now (values .entry)) (now (cells .entry))) (putCall (code .0) stamp value) room r ⌝ }
+    requires { ⌜ Reached search (now values) ⌝ }
+    ensures { λ r. ⌜ Settles (Sought head (now (values .entry)) search (code .0)) (putCall (code .0) stamp value) room r ⌝ }
 {
-    let n = head.slots as usize;
     if head.kind != Head::PLAIN {
         return Decision::refuse(Refusal::WrongKind);
     }
@@ -356,7 +393,7 @@ fn put(
         slot,
         cell: _,
         count: _,
-    } = table::look(cells, codes, n, code)
+    } = search
     else {
         let k = pushing(head);
         let row = Row {
@@ -380,18 +417,16 @@ fn put(
 
 fn put_or_modify(
     head: Head,
-    codes: &[u64],
     values: &[u64],
-    cells: &[u32],
+    search: Search,
     room: usize,
     code: Code,
     stamp: u32,
     amount: u64,
 ) -> Decision
-    requires { ⌜ Some (Valued head (now codes) (now values) (now cells)) ⌝ }
-    ensures { λ r. ⌜ Settles (Valued head (now (codes .entry)) (now (values .entry)) (now (cells .entry))) (putOrModifyCall (code .0) stamp amount) room r ⌝ }
+    requires { ⌜ Reached search (now values) ⌝ }
+    ensures { λ r. ⌜ Settles (Sought head (now (values .entry)) search (code .0)) (putOrModifyCall (code .0) stamp amount) room r ⌝ }
 {
-    let n = head.slots as usize;
     if head.kind != Head::PLAIN {
         return Decision::refuse(Refusal::WrongKind);
     }
@@ -399,7 +434,7 @@ fn put_or_modify(
         slot,
         cell: _,
         count: _,
-    } = table::look(cells, codes, n, code)
+    } = search
     else {
         return enter(head, room, code, stamp, amount);
     };
@@ -410,19 +445,17 @@ fn put_or_modify(
 
 fn try_put_or_modify(
     head: Head,
-    codes: &[u64],
     values: &[u64],
-    cells: &[u32],
+    search: Search,
     room: usize,
     code: Code,
     stamp: u32,
     amount: u64,
     ceiling: u64,
 ) -> Decision
-    requires { ⌜ Some (Valued head (now codes) (now values) (now cells)) ⌝ }
-    ensures { λ r. ⌜ Settles (Valued head (now (codes .entry)) (now (values .entry)) (now (cells .entry))) (tryPutOrModifyCall (code .0) stamp amount ceiling) room r ⌝ }
+    requires { ⌜ Reached search (now values) ⌝ }
+    ensures { λ r. ⌜ Settles (Sought head (now (values .entry)) search (code .0)) (tryPutOrModifyCall (code .0) stamp amount ceiling) room r ⌝ }
 {
-    let n = head.slots as usize;
     if head.kind != Head::PLAIN {
         return Decision::refuse(Refusal::WrongKind);
     }
@@ -430,7 +463,7 @@ fn try_put_or_modify(
         slot: found,
         cell: _,
         count: _,
-    } = table::look(cells, codes, n, code)
+    } = search
     else {
         if ceiling < amount {
             return Decision::refuse(Refusal::OverCeiling);
@@ -450,18 +483,16 @@ fn try_put_or_modify(
 
 fn put_with_weight(
     head: Head,
-    codes: &[u64],
     values: &[u64],
     weights: &[u64],
     prev: &[u32],
-    cells: &[u32],
+    search: Search,
     room: usize,
     row: Row,
 ) -> Decision
-    requires { ⌜ Some (Loaded head (now codes) (now values) (now weights) (now prev) (now cells)) ⌝ }
-    ensures { λ r. ⌜ Settles (Loaded head (now (codes .entry)) (now (values .entry)) (now (weights .entry)) (now (prev .entry)) (now (cells .entry))) (putWithWeightCall (row .code .0) (row .stamp) (row .value) (row .weight)) room r ⌝ }
+    requires { ⌜ Some (Loaded head (now values) (now weights) (now prev) search (row .code .0)) ⌝ }
+    ensures { λ r. ⌜ Settles (Loaded head (now (values .entry)) (now (weights .entry)) (now (prev .entry)) search (row .code .0)) (putWithWeightCall (row .code .0) (row .stamp) (row .value) (row .weight)) room r ⌝ }
 {
-    let n = head.slots as usize;
     if wrong_weight(head.kind, row.weight) {
         return Decision::refuse(Refusal::WrongKind);
     }
@@ -470,12 +501,11 @@ fn put_with_weight(
     }
     // What entries may take beside the new one: eviction goes on while live + weight + new weight >= C.
     let budget = head.capacity - 1 - row.weight;
-    let code = row.code;
     let Search::Found {
         slot,
         cell: _,
         count: _,
-    } = table::look(cells, codes, n, code)
+    } = search
     else {
         let k = rows::leaving(head, weights, prev, budget, Slot(Head::NONE));
         return admit(head, room, k, row, Answer::New { rows: k });
@@ -589,6 +619,7 @@ pub fn decide(
     let front = head.front;
     let back = head.back;
     let live = head.live as u64;
+    let search = seek(head, codes, cells, command);
     match command {
         Command::Len => Decision::say(Answer::Count(live)),
         Command::Capacity => Decision::say(Answer::Count(head.capacity)),
@@ -597,24 +628,15 @@ pub fn decide(
         Command::IsFull => Decision::say(Answer::Flag(is_full(head))),
         Command::Front => show(codes, stamps, values, weights, front),
         Command::Back => show(codes, stamps, values, weights, back),
-        Command::Peek(code) => peek(head, codes, values, cells, code),
-        Command::Contains(code) => contains(head, codes, cells, code),
+        Command::Peek(_) => peek(values, search),
+        Command::Contains(_) => contains(search),
         Command::List => list(head.live, room, Plan::List),
         Command::ListBack => list(head.live, room, Plan::ListBack),
-        Command::Get(code) => get(head, codes, values, cells, code),
-        Command::Pop(code) => pop(head, codes, values, cells, code),
+        Command::Get(_) => get(values, search),
+        Command::Pop(_) => pop(values, search),
         Command::PopFront => pop_end(codes, stamps, values, weights, front),
         Command::PopBack => pop_end(codes, stamps, values, weights, back),
-        Command::Put { code, stamp, value } => put(
-            head,
-            codes,
-            values,
-            cells,
-            room,
-            code,
-            stamp,
-            value,
-        ),
+        Command::Put { code, stamp, value } => put(head, values, search, room, code, stamp, value),
         Command::PutWithWeight {
             code,
             stamp,
@@ -622,11 +644,10 @@ pub fn decide(
             weight,
         } => put_with_weight(
             head,
-            codes,
             values,
             weights,
             prev,
-            cells,
+            search,
             room,
             Row {
                 code,
@@ -645,25 +666,15 @@ pub fn decide(
             code,
             stamp,
             amount,
-        } => put_or_modify(head, codes, values, cells, room, code, stamp, amount),
+        } => put_or_modify(head, values, search, room, code, stamp, amount),
         Command::TryPutOrModify {
             code,
             stamp,
             amount,
             ceiling,
-        } => try_put_or_modify(
-            head,
-            codes,
-            values,
-            cells,
-            room,
-            code,
-            stamp,
-            amount,
-            ceiling,
-        ),
-        Command::GetMut { code, value } => get_mut(head, codes, values, cells, code, value),
-        Command::PeekMut { code, value } => peek_mut(head, codes, values, cells, code, value),
+        } => try_put_or_modify(head, values, search, room, code, stamp, amount, ceiling),
+        Command::GetMut { code: _, value } => get_mut(head, values, search, value),
+        Command::PeekMut { code: _, value } => peek_mut(head, values, search, value),
         Command::FrontMut(value) => set_end(head.kind, values, front, value),
         Command::BackMut(value) => set_end(head.kind, values, back, value),
     }

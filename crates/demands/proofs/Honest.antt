@@ -1,7 +1,6 @@
 -- At the calls by which the impostors are refuted the contract can be kept: the outcomes that keep it.
 -- Assumes nothing.
 use mathlib.Core.Bool.{true, false≢true}
-use mathlib.Core.List.{[], _∷_}
 use mathlib.Core.Path.{_≡_, refl}
 use Rattle.head.specs.declared.Answer.the-variants.{New, Was, Done}
 use Rattle.head.specs.declared.Command.the-variants.{Put, Retain}
@@ -9,11 +8,11 @@ use Rattle.head.specs.Bounds.{plainKind, noneMark, unusedMark}
 use Rattle.crc.specs.Crc.{shift, shifts, withByte, withBytes, crcOf, bytes}
 use Rattle.crc.specs.Home.{homeOf}
 use Rattle.model.specs.Perform.{verdict, perform}
-use Rattle.list.specs.Inspect.{allFrom, linksAre, cellOk, bareOk, numbersOk}
+use Rattle.list.specs.Inspect.{allFrom, linksAre, cellOk, bareOk, walkOk, numbersOk, linksOk}
 use Rattle.table.specs.Cells.{wrap, ring, stops, past, answer, lookup, names}
-use Rattle.table.specs.Links.{walk}
+use Rattle.head.specs.Walks.{walk}
 use Rattle.table.specs.Acts.{filled, allBelow, tallied, counts}
-use Rattle.inspect.specs.Tests.{headOk, reachOk, slotsOk, blankOk}
+use Rattle.inspect.specs.Tests.{headOk, usedStands, sumOk, blankAt, stackBlank}
 use Rattle.plan.specs.States.{State, state}
 use Rattle.door.specs.Served.{Calls}
 use Rattle.demands.specs.Samples.{two, four, sample, state₂, row, code}
@@ -26,7 +25,7 @@ abbrev pub renewed : State
 renewed = sample 2 0 1 2 (two 1 2) (two 11 20) (two 1 noneMark) (two noneMark 0) (four 1 noneMark noneMark 0)
 
 renewed-sound : passes renewed ≡ true
-unfolding headOk reachOk slotsOk blankOk allFrom linksAre cellOk bareOk numbersOk filled allBelow tallied counts names lookup answer past stops ring wrap homeOf crcOf bytes withBytes withByte shifts shift
+unfolding headOk walkOk usedStands sumOk blankAt stackBlank allFrom linksAre cellOk bareOk numbersOk linksOk filled allBelow tallied counts names lookup answer past stops ring wrap homeOf crcOf bytes withBytes withByte shifts shift
 renewed-sound = refl
 
 pub put-old : Calls (Put (code 1) 0 11) state₂ renewed (row 0 0) (row 0 0) (Was 10 0)
@@ -41,7 +40,7 @@ abbrev pub placed : State
 placed = sample 2 0 1 2 (two 3 2) (two 30 20) (two 1 noneMark) (two noneMark 0) (four 1 noneMark 0 noneMark)
 
 placed-sound : passes placed ≡ true
-unfolding headOk reachOk slotsOk blankOk allFrom linksAre cellOk bareOk numbersOk filled allBelow tallied counts names lookup answer past stops ring wrap homeOf crcOf bytes withBytes withByte shifts shift
+unfolding headOk walkOk usedStands sumOk blankAt stackBlank allFrom linksAre cellOk bareOk numbersOk linksOk filled allBelow tallied counts names lookup answer past stops ring wrap homeOf crcOf bytes withBytes withByte shifts shift
 placed-sound = refl
 
 pub put-new : Calls (Put (code 3) 0 30) state₂ placed (row 0 0) (row 1 10) (New 1)
@@ -67,7 +66,7 @@ swept =
     }) (two 1 0) (two 0 0) (two 10 0) (two 0 0) (two noneMark unusedMark) (two noneMark 0) (two 1 noneMark) (four noneMark noneMark noneMark 0)
 
 swept-sound : passes swept ≡ true
-unfolding headOk reachOk slotsOk blankOk allFrom linksAre cellOk bareOk numbersOk filled allBelow tallied counts names lookup answer past stops ring wrap homeOf crcOf bytes withBytes withByte shifts shift
+unfolding headOk walkOk usedStands sumOk blankAt stackBlank allFrom linksAre cellOk bareOk numbersOk linksOk filled allBelow tallied counts names lookup answer past stops ring wrap homeOf crcOf bytes withBytes withByte shifts shift
 swept-sound = refl
 
 pub retained : Calls (Retain onlyOne) state₂ swept (row 0 0) (row 2 20) (Done 1)

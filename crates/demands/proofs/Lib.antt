@@ -7,3 +7,7 @@ pub mod Computed
 pub mod Sampled
 pub mod Refuted
 pub mod Honest
+pub mod Forms
+pub mod Doors
+pub mod Held
+pub mod Exported

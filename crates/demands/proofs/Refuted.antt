@@ -15,30 +15,29 @@ use Rattle.crc.specs.Crc.{shift, shifts, withByte, withBytes, crcOf, bytes}
 use Rattle.crc.specs.Home.{homeOf}
 use Rattle.model.specs.Codes.{codesOf, has}
 use Rattle.model.specs.Perform.{verdict, perform}
-use Rattle.list.specs.Inspect.{numbersOk}
 use Rattle.table.specs.Cells.{wrap, ring, stops, past, answer, lookup, sought, countIn}
-use Rattle.table.specs.Links.{walk}
-use Rattle.table.specs.Sound.{Open}
+use Rattle.head.specs.Walks.{walk}
+use Rattle.table.specs.Sound.{Gapped}
 use Rattle.table.specs.Acts.{filled, allBelow, tallied, counts}
-use Rattle.inspect.specs.Tests.{headOk, reachOk}
-use Rattle.inspect.proofs.Decided.{ready, searchable}
+use Rattle.table.proofs.Checked.{counts-open}
 use Rattle.plan.specs.States.{State}
 use Rattle.door.specs.Served.{Calls, shortest}
 use Rattle.demands.specs.Views.{codesIn}
 use Rattle.demands.specs.Samples.{state₂, state₄, row, code}
 use Rattle.demands.specs.Impostors.{RefusesAlways, SaysNew, StoresNothing, EmptiesAll, onlyOne, RemovesNone, InventsCount}
 use Rattle.demands.proofs.Steps.{order-shown}
-use Rattle.demands.proofs.Computed.{shown, means-shown}
+use Rattle.demands.proofs.Computed.{means-computed}
+use Rattle.outcomes.proofs.Decided.{shown}
 use Rattle.demands.proofs.Sampled.{sound₂}
 
 module _ (m : Command) (t : State) (rows' : Fields) (a : Answer) (k : Calls m state₂ t (row 0 0) rows' a) where
   -- the contract's answer
   answered : a ≡ perform m (shortest (row 0 0)) (shown state₂) .answer
-  answered = k .serves .sound (shown state₂) (means-shown state₂ sound₂) .answer
+  answered = k .serves .sound (shown state₂) (means-computed state₂ sound₂) .answer
 
   -- and the codes that it leaves
   codes-left : codesIn t ≡ codesOf (perform m (shortest (row 0 0)) (shown state₂) .left .desk .entries)
-  codes-left = ap codesOf (order-shown {s = t} (k .serves .sound (shown state₂) (means-shown state₂ sound₂) .left))
+  codes-left = ap codesOf (order-shown {s = t} (k .serves .sound (shown state₂) (means-computed state₂ sound₂) .left))
 
 put-old : (t : State) (rows' : Fields) (a : Answer) → Calls (Put (code 1) 0 11) state₂ t (row 0 0) rows' a → a ≡ Was 10 0
 unfolding perform verdict walk
@@ -74,12 +73,9 @@ removes-none t rows' a k e =
     omega arith
 
 -- `look` may be asked for this search: the table is open
-pub asked-for : Open (2 * 2) (state₄ .cells) (state₄ .fields .codes)
-unfolding headOk reachOk numbersOk filled allBelow tallied counts
-asked-for =
-    searchable (state₄ .head) (state₄ .fields) (state₄ .nexts) (state₄ .prevs) (state₄ .stack) (state₄ .cells)
-    (ready (state₄ .head) (state₄ .fields) (state₄ .nexts) (state₄ .prevs) (state₄ .stack) (state₄ .cells) refl refl refl)
-    refl
+pub asked-for : Gapped (2 * 2) (state₄ .cells) (state₄ .fields .codes)
+unfolding filled allBelow tallied counts
+asked-for = counts-open (state₄ .head .live) (omega arith) (omega arith) refl
 
 three-read : countIn (sought (homeOf 2) (2 * 2) (state₄ .cells) (state₄ .fields .codes) 9) ≡ 3
 unfolding countIn lookup answer past stops ring wrap homeOf crcOf bytes withBytes withByte shifts shift

@@ -18,11 +18,11 @@ use Rattle.model.specs.Desk.{plain, entry}
 use Rattle.model.specs.Perform.{Cache, fresh, opening, refused, opened, verdict, perform}
 use Rattle.model.specs.Runs.{brought}
 use Rattle.model.proofs.Cases.{split}
-use Rattle.list.specs.Inspect.{allFrom, linksAre, cellOk, bareOk, numbersOk}
+use Rattle.list.specs.Inspect.{allFrom, linksAre, cellOk, bareOk, walkOk, numbersOk, linksOk}
 use Rattle.table.specs.Cells.{wrap, ring, stops, past, answer, lookup, names}
-use Rattle.table.specs.Links.{walk}
+use Rattle.head.specs.Walks.{walk}
 use Rattle.table.specs.Acts.{filled, allBelow, tallied, counts}
-use Rattle.inspect.specs.Tests.{headOk, reachOk, slotsOk, blankOk}
+use Rattle.inspect.specs.Tests.{headOk, usedStands, sumOk, blankAt, stackBlank}
 use Rattle.store.specs.State.{fields}
 use Rattle.store.specs.Acts.{Tails}
 use Rattle.rows.specs.Written.{Written}
@@ -33,32 +33,32 @@ use Rattle.opening.specs.Begun.{Opens}
 use Rattle.demands.specs.Runs.{Run, Day}
 use Rattle.demands.specs.Counts.{Requests, newAnswers, Keeps}
 use Rattle.demands.specs.Samples.{two, four, lists₀, state₀, state₁, state₂, state₃, state₄, state₅, row, code, calls₈, holdings}
-use Rattle.demands.proofs.Computed.{passes, means-shown, reads-by, serves-by, calls-by}
+use Rattle.demands.proofs.Computed.{passes, means-computed, reads-by, serves-by, calls-by}
 use Rattle.demands.proofs.Carried.{beside}
 
 -- the six states are sound
 pub sound₀ : passes state₀ ≡ true
-unfolding headOk reachOk slotsOk blankOk allFrom linksAre cellOk bareOk numbersOk filled allBelow tallied counts
+unfolding headOk walkOk usedStands sumOk blankAt stackBlank allFrom linksAre cellOk bareOk numbersOk linksOk filled allBelow tallied counts
 sound₀ = refl
 
 pub sound₁ : passes state₁ ≡ true
-unfolding headOk reachOk slotsOk blankOk allFrom linksAre cellOk bareOk numbersOk filled allBelow tallied counts names lookup answer past stops ring wrap homeOf crcOf bytes withBytes withByte shifts shift
+unfolding headOk walkOk usedStands sumOk blankAt stackBlank allFrom linksAre cellOk bareOk numbersOk linksOk filled allBelow tallied counts names lookup answer past stops ring wrap homeOf crcOf bytes withBytes withByte shifts shift
 sound₁ = refl
 
 pub sound₂ : passes state₂ ≡ true
-unfolding headOk reachOk slotsOk blankOk allFrom linksAre cellOk bareOk numbersOk filled allBelow tallied counts names lookup answer past stops ring wrap homeOf crcOf bytes withBytes withByte shifts shift
+unfolding headOk walkOk usedStands sumOk blankAt stackBlank allFrom linksAre cellOk bareOk numbersOk linksOk filled allBelow tallied counts names lookup answer past stops ring wrap homeOf crcOf bytes withBytes withByte shifts shift
 sound₂ = refl
 
 pub sound₃ : passes state₃ ≡ true
-unfolding headOk reachOk slotsOk blankOk allFrom linksAre cellOk bareOk numbersOk filled allBelow tallied counts names lookup answer past stops ring wrap homeOf crcOf bytes withBytes withByte shifts shift
+unfolding headOk walkOk usedStands sumOk blankAt stackBlank allFrom linksAre cellOk bareOk numbersOk linksOk filled allBelow tallied counts names lookup answer past stops ring wrap homeOf crcOf bytes withBytes withByte shifts shift
 sound₃ = refl
 
 pub sound₄ : passes state₄ ≡ true
-unfolding headOk reachOk slotsOk blankOk allFrom linksAre cellOk bareOk numbersOk filled allBelow tallied counts names lookup answer past stops ring wrap homeOf crcOf bytes withBytes withByte shifts shift
+unfolding headOk walkOk usedStands sumOk blankAt stackBlank allFrom linksAre cellOk bareOk numbersOk linksOk filled allBelow tallied counts names lookup answer past stops ring wrap homeOf crcOf bytes withBytes withByte shifts shift
 sound₄ = refl
 
 pub sound₅ : passes state₅ ≡ true
-unfolding headOk reachOk slotsOk blankOk allFrom linksAre cellOk bareOk numbersOk filled allBelow tallied counts names lookup answer past stops ring wrap homeOf crcOf bytes withBytes withByte shifts shift
+unfolding headOk walkOk usedStands sumOk blankAt stackBlank allFrom linksAre cellOk bareOk numbersOk linksOk filled allBelow tallied counts names lookup answer past stops ring wrap homeOf crcOf bytes withBytes withByte shifts shift
 sound₅ = refl
 
 -- lists of two, and of four, have no tail
@@ -142,7 +142,7 @@ run₈ = (put-1, (put-2, ((peek-1, refl, refl), ((get-1, refl), (put-3, ((get-9,
 pub opened₀ : Opens plainKind 2 2 lists₀ state₀ (Began (state₀ .head))
 unfolding opening walk
 opened₀ = record {
-  opens = λ x e. (refl, subst (Means state₀) (opened-one e) (means-shown state₀ sound₀), record { codes = tail₂; stamps = tail₂; values = tail₂; weights = tail₂; nexts = tail₂; prevs = tail₂; stacks = tail₂; table = tail₄ });
+  opens = λ x e. (refl, subst (Means state₀) (opened-one e) (means-computed state₀ sound₀), record { codes = tail₂; stamps = tail₂; values = tail₂; weights = tail₂; nexts = tail₂; prevs = tail₂; stacks = tail₂; table = tail₄ });
   refuses = λ r e. absurd (opened-not e);
 }
   where

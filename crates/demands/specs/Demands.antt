@@ -86,3 +86,13 @@ NoneRefused = (C N : ℕ) → C ≤ N → (d : Day plainKind C N) → Requests (
 -- the codes accepted as "new" in a run from opening are those live now together with those pushed out, popped, swept and cleared, each as often
 abbrev pub Tallied : Type 0
 Tallied = (kind c n : ℕ) (d : Day kind c n) → Rearranged (accepted (d .calls)) (codesIn (ending (d .begun) (d .calls)) ++ departed (d .begun) (d .calls))
+
+-- ---- all of them, of one day
+
+-- what the demands say of one day: each call as defined, the tally, and on a plain cache the bound beside any keeper and no put refused
+pub record Held {kind c n : ℕ} (d : Day kind c n) : Type 0 where
+  pub defined : AsDefined (d .begun) (fresh (kindOf kind) c n) (d .calls)
+  pub tallied : Rearranged (accepted (d .calls)) (codesIn (ending (d .begun) (d .calls)) ++ departed (d .begun) (d .calls))
+  pub beside : kind ≡ plainKind → (H : ℕ) → 1 ≤ H → H ≤ c → c ≤ n → Requests (d .calls) → (os : List (List ℕ)) → Keeps H (d .calls) os
+      → (c - H + 1) * newAnswers (d .calls) ≤ c * brought [] os
+  pub taken : kind ≡ plainKind → c ≤ n → Requests (d .calls) → AllTaken (d .calls)

@@ -1,4 +1,6 @@
 pub mod Runs
+pub mod Doors
+pub mod Exported
 pub mod Views
 pub mod Counts
 pub mod Demands

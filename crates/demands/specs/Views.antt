@@ -6,7 +6,7 @@ use lib.ListN.{take}
 use Rattle.head.specs.declared.Row.{Row}
 use Rattle.head.specs.Answers.{rowCount}
 use Rattle.model.specs.Codes.{codesOf}
-use Rattle.table.specs.Links.{walk}
+use Rattle.head.specs.Walks.{walk}
 use Rattle.store.specs.State.{gather}
 use Rattle.plan.specs.States.{State}
 use Rattle.demands.specs.Runs.{Made}

@@ -1,4 +1,4 @@
 // The script program: lines from standard input, answers to standard output. docs/SCRIPT.md has the lines.
 fn main() {
-    play::desk();
+    script_play::desk(libc::STDIN_FILENO);
 }

@@ -1,2 +1,2 @@
-pub mod Considering
+pub mod Deciding
 pub mod Serving

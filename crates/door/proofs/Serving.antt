@@ -1,46 +1,30 @@
--- A decision carried out is what the definitions say of the call.
+-- A decision carried out is what the definitions say of the call; and what is refused before one is made.
 -- Assumes nothing.
 use Prim.Native.Nat.{ℕ}
-use mathlib.Core.Bool.{Bool, true}
-use mathlib.Core.List.{List, []}
+use mathlib.Core.Bool.{true, false}
+use mathlib.Core.List.{List}
 use mathlib.Core.Path.{_≡_, refl, sym, ap, _∙_, subst}
-use Rattle.head.specs.declared.Answer.{Answer}
 use Rattle.head.specs.declared.Answer.the-variants.{No}
-use Rattle.head.specs.declared.Refusal.the-variants.{Unsound}
+use Rattle.head.specs.declared.Refusal.the-variants.{Unsound, NotUnderstood}
 use Rattle.head.specs.declared.Command.{Command}
-use Rattle.head.specs.Fields.{Fields}
 use Rattle.head.specs.declared.Row.{Row}
-use Rattle.model.specs.Moves.{Move, stay}
+use Rattle.head.specs.Fields.{Fields}
+use Rattle.head.specs.Forms.{formOf}
+use Rattle.model.specs.Moves.{Move}
 use Rattle.model.specs.Calls.{Verdict}
 use Rattle.model.specs.Perform.{Cache, verdict, handed, perform}
 use Rattle.store.specs.Caches.{after}
 use Rattle.rows.specs.Written.{Written}
-use Rattle.plan.specs.declared.Plan.{Plan}
-use Rattle.plan.specs.declared.Plan.the-variants.{Stay, List as ListFront, ListBack, Raise, Set, Renew, Drop, Place, Replace, Fit, Sweep, Clear}
+use Rattle.rows.proofs.Nothing.{none-written}
 use Rattle.plan.specs.declared.Decision.{Decision}
 use Rattle.plan.specs.States.{State, Means, Sound}
-use Rattle.plan.specs.Plans.{denied, moveOf, rowsOf, meant, cellsStay}
-use Rattle.act.specs.Acted.{Acted, Walked, HandedOut}
-use Rattle.door.specs.Served.{Considered, Follows, Serves, shortest, Tells, Calls, Reads}
-use Rattle.door.proofs.Considering.{ready}
+use Rattle.plan.specs.Plans.{moveOf, rowsOf, cellsStay}
+use Rattle.act.specs.Acted.{Acted, HandedOut}
+use Rattle.door.specs.Served.{Serves, shortest, Calls, isReader, isTeller, Reads, Tells}
+use Rattle.door.proofs.Deciding.{Decided, ready}
 
--- which cells stay does not depend on where the slots stand
-cells-by : (p : Plan) (order : List ℕ) → cellsStay (moveOf p order) ≡ cellsStay (moveOf p [])
-cells-by Stay order = refl
-cells-by ListFront order = refl
-cells-by ListBack order = refl
-cells-by (Raise s) order = refl
-cells-by (Set s v) order = refl
-cells-by (Renew s v) order = refl
-cells-by (Drop s) order = refl
-cells-by (Place k e) order = refl
-cells-by (Replace s k e) order = refl
-cells-by (Fit k n) order = refl
-cells-by (Sweep q) order = refl
-cells-by Clear order = refl
-
-module _ {m : Command} {lent : ℕ} {s : State} {r : Decision} (p : Considered m lent s r) where
-  pub answered : (c : Cache) → Means s c → r .answer ≡ perform m lent c .answer
+module _ {m : Command} {lent : ℕ} {s : State} {r : Decision} (p : Decided m lent s r) where
+  answered : (c : Cache) → Means s c → r .answer ≡ perform m lent c .answer
   unfolding perform
   answered c d = sym (ap (λ (v : Verdict). v .answer) (p .settles .means c d))
 
@@ -55,38 +39,67 @@ module _ {m : Command} {lent : ℕ} {s : State} {r : Decision} (p : Considered m
   unfolding perform
   leaving c d = ap (λ (x : Move). after x c) (moving c d)
 
-  pub serves : {t : State} → Acted (r .plan) s t → Serves m lent s t (r .answer)
-  serves {t} a = record {
+  pub serves : {t : State} → Sound s → Acted (r .plan) s t → Serves m lent s t (r .answer)
+  serves {t} w a = record {
     sound = λ c d. record {
       answer = answered c d;
       left = subst (λ (x : Cache). Means t x) (leaving c d) (a .means c (ready p c d) d);
       tails = a .tails;
-      cells = λ e. a .cells (sym (cells-by (r .plan) (c .slots .order)) ∙ ap cellsStay (moving c d) ∙ e);
+      cells = λ e. a .cells c (ready p c d) d (ap (λ (x : Move). cellsStay x (c .desk)) (moving c d) ∙ e);
     };
-    unsound = λ n.
-        let e = p .unsound n in
-        (ap (λ (x : Decision). x .answer) e, a .still (ap (λ (x : Decision). moveOf (x .plan) []) e));
+    unsound = λ n. absurd (n w);
   }
 
-  module _ {rows rows' : Fields} (o : HandedOut (r .plan) (s .head) (s .fields) (s .nexts) (s .prevs) rows rows') where
-    pub hands : (c : Cache) → Means s c → Written (perform m lent c .rows) rows rows'
-    hands c d =
-        subst (λ (x : List Row). Written x rows rows') (handing c d)
-        (o .written c (p .settles .named c d) (record { stack = s .stack; cells = s .cells; described = d }))
+  hands : {rows rows' : Fields} → HandedOut (r .plan) (s .head) (s .fields) (s .nexts) (s .prevs) rows rows' → (c : Cache) → Means s c
+      → Written (perform m lent c .rows) rows rows'
+  hands {rows} {rows'} o c d =
+      subst (λ (x : List Row). Written x rows rows') (handing c d)
+      (o .written c (p .settles .named c d) (record { stack = s .stack; cells = s .cells; described = d }))
 
-    pub keeps-rows : (Sound s → ⊥) → rows' ≡ rows
-    keeps-rows n = o .still (ap (λ (x : Decision). x .plan) (p .unsound n))
-
-module _ {m : Command} {s : State} {r : Decision} {rows rows' : Fields} (p : Considered m (shortest rows) s r) (o : HandedOut (r .plan) (s .head) (s .fields) (s .nexts) (s .prevs) rows rows') where
-  pub tells : Tells m s rows rows' (r .answer)
-  tells = record {
-    answer = answered p;
-    hands = hands p o;
-    unsound = λ n. (ap (λ (x : Decision). x .answer) (p .unsound n), keeps-rows p o n);
-  }
-
+module _ {m : Command} {s : State} {r : Decision} {rows rows' : Fields} (p : Decided m (shortest rows) s r) (w : Sound s)
+    (o : HandedOut (r .plan) (s .head) (s .fields) (s .nexts) (s .prevs) rows rows') where
   pub calls : {t : State} → Acted (r .plan) s t → Calls m s t rows rows' (r .answer)
-  calls a = record { serves = serves p a; hands = hands p o; unsound = keeps-rows p o }
+  calls a = record { serves = serves p w a; hands = hands p o; unsound = λ n. absurd (n w) }
 
-pub reads : {m : Command} {s : State} {r : Decision} → Considered m 0 s r → Reads m s (r .answer)
-reads p = record { sound = answered p; unsound = λ n. ap (λ (x : Decision). x .answer) (p .unsound n) }
+  pub tells : isTeller (formOf m) ≡ true → Tells m s rows rows' (r .answer)
+  tells k = record {
+    answer = λ c d. rw k (answered p c d);
+    hands = λ c d. rw k (hands p o c d);
+    unsound = λ n. absurd (n w);
+  }
+
+pub reads : {m : Command} {s : State} {r : Decision} → Decided m 0 s r → Sound s → isReader (formOf m) ≡ true → Reads m s (r .answer)
+reads p w k = record { sound = λ c d. rw k (answered p c d); unsound = λ n. absurd (n w) }
+
+-- ---- what is refused before anything is decided
+
+pub serves-none : {m : Command} {lent : ℕ} {s : State} → (Sound s → ⊥) → Serves m lent s s (No Unsound)
+serves-none n = record { sound = λ c d. absurd (n (record { cache = c; described = d })); unsound = λ z. (refl, refl) }
+
+module _ {m : Command} {s : State} {rows : Fields} where
+  pub calls-none : (Sound s → ⊥) → Calls m s s rows rows (No Unsound)
+  calls-none n = record {
+    serves = serves-none n;
+    hands = λ c d. absurd (n (record { cache = c; described = d }));
+    unsound = λ z. refl;
+  }
+
+  pub tells-none : (Sound s → ⊥) → Tells m s rows rows (No Unsound)
+  tells-none n = record {
+    answer = λ c d. absurd (n (record { cache = c; described = d }));
+    hands = λ c d. absurd (n (record { cache = c; described = d }));
+    unsound = λ z. (refl, refl);
+  }
+
+  pub tells-other : Sound s → isTeller (formOf m) ≡ false → Tells m s rows rows (No NotUnderstood)
+  tells-other w k = record {
+    answer = λ c d. rw k refl;
+    hands = λ c d. rw k (none-written rows);
+    unsound = λ n. absurd (n w);
+  }
+
+pub reads-none : {m : Command} {s : State} → (Sound s → ⊥) → Reads m s (No Unsound)
+reads-none n = record { sound = λ c d. absurd (n (record { cache = c; described = d })); unsound = λ z. refl }
+
+pub reads-other : {m : Command} {s : State} → Sound s → isReader (formOf m) ≡ false → Reads m s (No NotUnderstood)
+reads-other w k = record { sound = λ c d. rw k refl; unsound = λ n. absurd (n w) }

@@ -1,22 +1,23 @@
 -- A head that a call leaves is read again as it was left, and a number past its width makes a head unsound.
 -- Assumes nothing.
-use Prim.Native.Nat.{ℕ, _<_, _≤_, _+_}
-use mathlib.Core.Bool.{cond}
+use Prim.Native.Nat.{ℕ, _<_, _≤_}
 use mathlib.Core.List.{List, [], _∷_}
 use mathlib.Core.Logic.{_⊎_, ⊎-elim}
 use mathlib.Core.Path.{_≡_, refl, sym, ap, subst, _∙_}
 use native.Mathlib.Omega.{arith}
 use borrow.Author.Tests.{le-leb, lt-leb, le-ltb, ne-eqb}
-use lib.ListN.{length, getD, set, length-set}
+use lib.Dec.{eqb, ltb}
+use lib.ListN.{length, getD, set}
 use Rattle.head.specs.declared.Head.{Head}
 use Rattle.head.specs.Bounds.{noneMark}
 use Rattle.model.specs.Desk.{Kind, plain, weighed, kindNumber}
+use Rattle.model.proofs.Cases.{split}
 use Rattle.list.specs.Order.{below}
 use Rattle.model.specs.Codes.{count}
 use Rattle.list.proofs.Chain.{not-head, not-last}
 use Rattle.table.proofs.Ring.{lt-or-le}
 use Rattle.layout.proofs.Laid.{still}
-use Rattle.plan.specs.States.{State, Sound, Means, state}
+use Rattle.plan.specs.States.{State, Sound, state}
 use Rattle.layout.specs.Heads.{narrowed, headIn, headOf, headPut, headLeft}
 
 -- the nine numbers of a head, each of the seven narrow ones narrowed
@@ -47,6 +48,11 @@ put-in (a ∷ b ∷ c ∷ d ∷ e ∷ f ∷ g ∷ i ∷ []) h n = absurd (omega 
 
 put-long : (l : List ℕ) (h : Head) → length (headPut l h) ≡ length l
 put-long l h = still (set (set (set (set (set (set (set (set l 0 (h .kind)) 1 (h .capacity)) 2 (h .slots)) 3 (h .live)) 4 (h .weight)) 5 (h .front .0)) 6 (h .back .0)) 7 (h .top .0)) 8 (h .depth .0) (still (set (set (set (set (set (set (set l 0 (h .kind)) 1 (h .capacity)) 2 (h .slots)) 3 (h .live)) 4 (h .weight)) 5 (h .front .0)) 6 (h .back .0)) 7 (h .top .0) (still (set (set (set (set (set (set l 0 (h .kind)) 1 (h .capacity)) 2 (h .slots)) 3 (h .live)) 4 (h .weight)) 5 (h .front .0)) 6 (h .back .0) (still (set (set (set (set (set l 0 (h .kind)) 1 (h .capacity)) 2 (h .slots)) 3 (h .live)) 4 (h .weight)) 5 (h .front .0) (still (set (set (set (set l 0 (h .kind)) 1 (h .capacity)) 2 (h .slots)) 3 (h .live)) 4 (h .weight) (still (set (set (set l 0 (h .kind)) 1 (h .capacity)) 2 (h .slots)) 3 (h .live) (still (set (set l 0 (h .kind)) 1 (h .capacity)) 2 (h .slots) (still (set l 0 (h .kind)) 1 (h .capacity) (still l 0 (h .kind) refl))))))))
+
+-- the head's list keeps its length
+pub left-long : (r : ℕ) (l : List ℕ) (h : Head) → length (headLeft r l h) ≡ length l
+unfolding headLeft
+left-long r l h = split (eqb r 2) (λ e. rw e refl) (λ e. rw e (split (ltb (length l) 9) (λ f. rw f refl) (λ f. rw f (put-long l h))))
 
 -- a number that a sound head may have: at most 4096, or the mark of no slot
 abbrev Fine : ℕ → Type 0

@@ -12,7 +12,7 @@ use Rattle.head.specs.declared.Refusal.{Refusal}
 use Rattle.head.specs.Fields.{Fields}
 use Rattle.head.specs.Fresh.{freshHead}
 use Rattle.head.specs.Refusals.{numberOf}
-use Rattle.plan.specs.States.{State, state}
+use Rattle.plan.specs.States.{state}
 use Rattle.door.specs.Served.{Calls, Tells}
 use Rattle.opening.specs.declared.Opened.{Opened}
 use Rattle.opening.specs.declared.Opened.the-variants.{Cache as Began, No}

@@ -1,3 +1,4 @@
 pub mod Exchanged
 pub mod Refused
 pub mod Again
+pub mod Settled

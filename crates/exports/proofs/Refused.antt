@@ -10,7 +10,7 @@ use lib.ListN.{length}
 use Rattle.head.specs.declared.Head.{Head}
 use Rattle.head.specs.declared.Command.{Command}
 use Rattle.head.specs.declared.Answer.the-variants.{No}
-use Rattle.head.specs.declared.Refusal.the-variants.{NotUnderstood, Unsound}
+use Rattle.head.specs.declared.Refusal.the-variants.{NotUnderstood}
 use Rattle.head.specs.Fields.{Fields}
 use Rattle.model.specs.Desk.{Kind, plain, weighed, kindNumber}
 use Rattle.model.specs.Perform.{Cache, perform, verdict}

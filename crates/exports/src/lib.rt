@@ -2,11 +2,10 @@
 use opening::Opened;
 ghost use mathlib.Core.Path.{_≡_};
 ghost use lib.ListN.{length};
-ghost use Rattle.head.specs.Fresh.{freshHead};
 ghost use Rattle.store.specs.State.{fields};
 ghost use Rattle.plan.specs.States.{state};
 ghost use Rattle.layout.specs.Heads.{headOf};
-ghost use Rattle.layout.specs.Commands.{commandIn, readerIn};
+ghost use Rattle.layout.specs.Commands.{commandIn};
 ghost use Rattle.exports.specs.Exchange.{kindFor, openedNumber, openedLeft, Opening, Reading, Calling};
 
 // The kind to open with: none that exists where the head's list is too short for a head.
@@ -83,10 +82,10 @@ pub extern "C" fn weavestall_read(
     command: &[u64],
     answer: &mut [u64],
 ) -> u32
-    ensures { λ r. ⌜ Reading (readerIn (now (command .entry))) (state (headOf (now (head .entry)) (length (now (answer .entry)))) (now (codes .entry)) (now (stamps .entry)) (now (values .entry)) (now (weights .entry)) (now (next .entry)) (now (prev .entry)) (now (stack .entry)) (now (cells .entry))) (fields (now («row_codes» .entry)) (now («row_stamps» .entry)) (now («row_values» .entry)) (now («row_weights» .entry))) (fields (now («row_codes» .exit)) (now («row_stamps» .exit)) (now («row_values» .exit)) (now («row_weights» .exit))) (now (answer .entry)) (now (answer .exit)) r ⌝ }
+    ensures { λ r. ⌜ Reading (commandIn (now (command .entry))) (state (headOf (now (head .entry)) (length (now (answer .entry)))) (now (codes .entry)) (now (stamps .entry)) (now (values .entry)) (now (weights .entry)) (now (next .entry)) (now (prev .entry)) (now (stack .entry)) (now (cells .entry))) (fields (now («row_codes» .entry)) (now («row_stamps» .entry)) (now («row_values» .entry)) (now («row_weights» .entry))) (fields (now («row_codes» .exit)) (now («row_stamps» .exit)) (now («row_values» .exit)) (now («row_weights» .exit))) (now (answer .entry)) (now (answer .exit)) r ⌝ }
 {
     let found = layout::head_at(head, answer.len());
-    let asked = layout::reader_at(command);
+    let asked = layout::command_at(command);
     let said = door::tell(
         found,
         codes,

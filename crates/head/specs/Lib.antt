@@ -5,3 +5,5 @@ pub mod Rules
 pub mod Tails
 pub mod Fields
 pub mod Answers
+pub mod Forms
+pub mod Walks

@@ -3,6 +3,7 @@ ghost use mathlib.Core.Path.{_≡_};
 ghost use mathlib.Core.Bool.{not};
 ghost use Rattle.head.specs.Answers.{rowCount};
 ghost use Rattle.head.specs.Bounds.{allowed};
+ghost use Rattle.head.specs.Forms.{formOf};
 ghost use Rattle.head.specs.Fresh.{freshHead, reweighed, recapped};
 ghost use Rattle.head.specs.Refusals.{numberOf};
 ghost use Rattle.head.specs.Rules.{codeRule, valueRule, stampRule, weightRule, ruleOf};
@@ -29,7 +30,7 @@ pub struct Head {
     // The slots of the most and the least recent entry; NONE where there is no entry.
     pub front: Slot,
     pub back: Slot,
-    // The first slot that no entry has stood in since the cache was opened, cleared or shrunk.
+    // The crate's `nodes.len()`: no slot from here on is in use or waits on the stack. Below it a slot is one of the two.
     pub top: Slot,
     // How many slots wait on the free stack: the place that the next one takes.
     pub depth: Place,
@@ -237,6 +238,71 @@ pub enum Command {
     },
     FrontMut(u64),
     BackMut(u64),
+}
+
+// Which of four promises a call has, by what it does with what it is lent.
+pub enum Form {
+    // Reads, and hands out no row.
+    Reading,
+    // Reads, and hands out entries that stay.
+    Listing,
+    // Changes the cache, and hands out no row.
+    Acting,
+    // Changes the cache, and hands out the entries that leave.
+    Handing,
+}
+
+impl Command {
+    pub fn form(self) -> Form
+        ensures { λ r. ⌜ r ≡ formOf self ⌝ }
+    {
+        match self {
+            Command::Len => Form::Reading,
+            Command::Capacity => Form::Reading,
+            Command::Weight => Form::Reading,
+            Command::IsEmpty => Form::Reading,
+            Command::IsFull => Form::Reading,
+            Command::Front => Form::Reading,
+            Command::Back => Form::Reading,
+            Command::Peek(_) => Form::Reading,
+            Command::Contains(_) => Form::Reading,
+            Command::List => Form::Listing,
+            Command::ListBack => Form::Listing,
+            Command::Get(_) => Form::Acting,
+            Command::Pop(_) => Form::Acting,
+            Command::PopFront => Form::Acting,
+            Command::PopBack => Form::Acting,
+            Command::Clear => Form::Acting,
+            Command::GetMut { code: _, value: _ } => Form::Acting,
+            Command::PeekMut { code: _, value: _ } => Form::Acting,
+            Command::FrontMut(_) => Form::Acting,
+            Command::BackMut(_) => Form::Acting,
+            Command::Put {
+                code: _,
+                stamp: _,
+                value: _,
+            } => Form::Handing,
+            Command::PutWithWeight {
+                code: _,
+                stamp: _,
+                value: _,
+                weight: _,
+            } => Form::Handing,
+            Command::Retain(_) => Form::Handing,
+            Command::Resize(_) => Form::Handing,
+            Command::PutOrModify {
+                code: _,
+                stamp: _,
+                amount: _,
+            } => Form::Handing,
+            Command::TryPutOrModify {
+                code: _,
+                stamp: _,
+                amount: _,
+                ceiling: _,
+            } => Form::Handing,
+        }
+    }
 }
 
 // Why a call was not carried out, and what helps.

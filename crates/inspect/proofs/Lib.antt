@@ -1,5 +1,9 @@
+pub mod Bits
 pub mod Sums
-pub mod Walking
+pub mod Counts
+pub mod Used
+pub mod Ends
+pub mod Parts
 pub mod Blanks
 pub mod Orders
 pub mod Numbers

@@ -1,20 +1,17 @@
--- The tests of the head's numbers and of the lists' lengths, as facts; and the kind of a number.
+-- The tests of the head's numbers, as facts; and the kind of a number.
 -- Assumes nothing.
-use Prim.Native.Nat.{ℕ, _+_, _-_, _*_, _≤_}
-use mathlib.Core.Bool.{Bool, true, cond}
-use mathlib.Core.List.{List}
+use Prim.Native.Nat.{ℕ, _+_, _-_, _≤_}
+use mathlib.Core.Bool.{true, cond}
 use mathlib.Core.Path.{_≡_, refl}
 use native.Mathlib.Omega.{arith}
 use lib.Dec.{eqb, leb}
-use lib.ListN.{length}
 use borrow.Author.Tests.{eqb-true, eqb-false, eq-eqb, leb-true, le-leb}
 use Rattle.head.specs.declared.Head.{Head}
 use Rattle.head.specs.Bounds.{plainKind, weighedKind, mostCapacity, mostSlots, allowed, capacityOk}
 use Rattle.model.specs.Desk.{Kind, plain, weighed, kindNumber, kindOf}
 use Rattle.model.proofs.Cases.{split, both}
 use Rattle.list.proofs.Walked.{and-in}
-use Rattle.head.specs.Fields.{Fields, Reach}
-use Rattle.inspect.specs.Tests.{headOk, reachOk}
+use Rattle.inspect.specs.Tests.{headOk}
 
 -- ---- kinds
 
@@ -79,39 +76,3 @@ pub head-plain : (h : Head) → allowed (h .kind) (h .capacity) (h .slots) ≡ t
     → h .kind ≡ plainKind → eqb (h .weight) 0 ≡ headOk h
 unfolding headOk
 head-plain h a b c d = rw (a, le-leb (h .weight) (h .capacity) b, le-leb (h .live) (h .capacity - h .weight) c, eq-eqb (h .kind) plainKind d)
-
--- ---- the lists' lengths
-
-pub record Reached (n : ℕ) (f : Fields) (cells : List ℕ) : Type 0 where
-  pub reach : Reach n f
-  pub wide : 2 * n ≤ length cells
-
--- the test, on lists
-abbrev pub lengths : ℕ → Fields → List ℕ → Bool
-lengths n f cells = reachOk n (length (f .codes)) (length (f .stamps)) (length (f .values)) (length (f .weights)) (length cells)
-
-module _ (n : ℕ) (f : Fields) (cells : List ℕ) where
-  pub reached : lengths n f cells ≡ true → Reached n f cells
-  unfolding reachOk
-  reached e =
-      let a = both (leb n (length (f .codes))) _ e in
-      let b = both (leb n (length (f .stamps))) _ (a .1) in
-      let c = both (leb n (length (f .values))) _ (b .1) in
-      let d = both (leb n (length (f .weights))) _ (c .1) in
-      record {
-        reach = record {
-          codes = leb-true n (length (f .codes)) (a .0);
-          stamps = leb-true n (length (f .stamps)) (b .0);
-          values = leb-true n (length (f .values)) (c .0);
-          weights = leb-true n (length (f .weights)) (d .0);
-        };
-        wide = leb-true (2 * n) (length cells) (d .1);
-      }
-
-  pub reached-passes : Reached n f cells → lengths n f cells ≡ true
-  unfolding reachOk
-  reached-passes r =
-      and-in _ _ (le-leb n (length (f .codes)) (r .reach .codes))
-      (and-in _ _ (le-leb n (length (f .stamps)) (r .reach .stamps))
-      (and-in _ _ (le-leb n (length (f .values)) (r .reach .values))
-      (and-in _ _ (le-leb n (length (f .weights)) (r .reach .weights)) (le-leb (2 * n) (length cells) (r .wide)))))

@@ -15,7 +15,7 @@ use Rattle.list.proofs.Marks.{hit}
 use Rattle.list.proofs.Within.{once}
 use Rattle.head.specs.Fields.{Fields}
 use Rattle.store.specs.State.{gather}
-use Rattle.store.proofs.Members.{counted-member, member-counted}
+use Rattle.model.proofs.Members.{counted-member, member-counted}
 
 -- a code that no slot of the order has
 code-absent : (f : Fields) (o : List ℕ) (x : ℕ) → ((s : ℕ) → List·Memᴰ s o → getD (f .codes) s 0 ≡ x → ⊥) → count x (codesOf (gather f o)) ≡ 0

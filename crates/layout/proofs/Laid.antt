@@ -4,9 +4,8 @@ use Prim.Native.Nat.{ℕ, _<_, _≤_}
 use mathlib.Core.Bool.{Bool}
 use mathlib.Core.List.{List}
 use mathlib.Core.Path.{_≡_, refl, sym, ap, subst, _∙_}
-use lib.Dec.{eqb, ltb, leb}
+use lib.Dec.{eqb}
 use lib.ListN.{length, getD, set, length-set}
-use native.Mathlib.Omega.{arith}
 use borrow.Author.Tests.{le-ltb, lt-ltb, le-leb, lt-leb, eq-eqb, ne-eqb}
 use Rattle.head.specs.declared.Head.{Head}
 use Rattle.head.specs.declared.Refusal.{Refusal}
@@ -18,8 +17,8 @@ use Rattle.head.specs.Fresh.{freshHead}
 use Rattle.head.specs.Refusals.{numberOf}
 use Rattle.layout.specs.declared.Numbers.{Numbers}
 use Rattle.layout.specs.Numbered.{bit, numbered, numbersOf, numbersLeft}
-use Rattle.layout.specs.Heads.{narrowed, headIn, headOf, headPut, headLeft}
-use Rattle.layout.specs.Commands.{notUnderstood, stamped, ruled, commandOf, commandIn, readerIn}
+use Rattle.layout.specs.Heads.{narrowed, headOf, headPut, headLeft}
+use Rattle.layout.specs.Commands.{stamped, ruled, commandOf, commandIn}
 
 -- ---- numbers
 
@@ -133,18 +132,6 @@ module _ (l : List ℕ) where
   pub command-whole : 5 ≤ length l → {m : Command} → m ≡ commandOf (getD l 0 0) (getD l 1 0) (getD l 2 0) (getD l 3 0) (getD l 4 0) → m ≡ commandIn l
   unfolding commandIn
   command-whole s e = rw (le-ltb (length l) 5 s) e
-
-  pub reader-short : length l < 5 → Resize 0 ≡ readerIn l
-  unfolding readerIn
-  reader-short s = rw (lt-ltb (length l) 5 s) refl
-
-  pub reader-past : 5 ≤ length l → 11 < getD l 0 0 → Resize 0 ≡ readerIn l
-  unfolding readerIn
-  reader-past s h = rw (le-ltb (length l) 5 s, lt-ltb 11 (getD l 0 0) h) refl
-
-  pub reader-whole : 5 ≤ length l → getD l 0 0 ≤ 11 → {m : Command} → m ≡ commandOf (getD l 0 0) (getD l 1 0) (getD l 2 0) (getD l 3 0) (getD l 4 0) → m ≡ readerIn l
-  unfolding readerIn
-  reader-whole s h e = rw (le-ltb (length l) 5 s, le-ltb 11 (getD l 0 0) h) e
 
 -- ---- answers
 

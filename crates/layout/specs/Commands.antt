@@ -1,7 +1,7 @@
 -- A call as a list of five numbers: its number, and up to four more.
 -- Assumes nothing.
 use Prim.Native.Nat.{ℕ}
-use mathlib.Core.Bool.{Bool, cond}
+use mathlib.Core.Bool.{cond}
 use mathlib.Core.List.{List}
 use lib.Dec.{ltb, leb, eqb}
 use lib.ListN.{length, getD}
@@ -55,8 +55,3 @@ commandOf n a b c d =
 -- the call that a list holds
 unfoldable pub commandIn : List ℕ → Command
 commandIn l = cond (ltb (length l) 5) notUnderstood (commandOf (getD l 0 0) (getD l 1 0) (getD l 2 0) (getD l 3 0) (getD l 4 0))
-
--- the same where only the numbers up to 11, the calls that read, are understood
-unfoldable pub readerIn : List ℕ → Command
-readerIn l =
-    cond (ltb (length l) 5) notUnderstood (cond (ltb 11 (getD l 0 0)) notUnderstood (commandOf (getD l 0 0) (getD l 1 0) (getD l 2 0) (getD l 3 0) (getD l 4 0)))

@@ -4,8 +4,7 @@ use Prim.Native.Nat.{ℕ}
 use mathlib.Core.List.{List}
 use lib.Dec.{ltb}
 use lib.ListN.{length, set}
-use mathlib.Core.Bool.{Bool, true, false, cond}
-use Rattle.head.specs.declared.Row.{Row}
+use mathlib.Core.Bool.{Bool, cond}
 use Rattle.head.specs.declared.Answer.{Answer}
 use Rattle.head.specs.declared.Answer.the-variants.{No, New, Was, Is, Now, Absent, Entry, Done, Count, Flag}
 use Rattle.head.specs.Refusals.{numberOf}

@@ -8,7 +8,7 @@ use head::Rule;
 use head::Slot;
 ghost use mathlib.Core.Path.{_≡_};
 ghost use Rattle.layout.specs.Heads.{narrowed, headOf, headLeft};
-ghost use Rattle.layout.specs.Commands.{stamped, ruled, commandOf, commandIn, readerIn};
+ghost use Rattle.layout.specs.Commands.{stamped, ruled, commandOf, commandIn};
 ghost use Rattle.layout.specs.Numbered.{bit, numbersOf, numbersLeft};
 ghost use Rattle.head.specs.declared.Command.the-variants.{Put, PutOrModify, PutWithWeight, TryPutOrModify};
 
@@ -207,19 +207,6 @@ pub fn command_at(list: &[u64]) -> Command
     ensures { λ r. ⌜ r ≡ commandIn (now (list .entry)) ⌝ }
 {
     if list.len() < 5 {
-        return Command::Resize(0);
-    }
-    command_of(list[0], list[1], list[2], list[3], list[4])
-}
-
-// The same where only the calls that read are understood.
-pub fn reader_at(list: &[u64]) -> Command
-    ensures { λ r. ⌜ r ≡ readerIn (now (list .entry)) ⌝ }
-{
-    if list.len() < 5 {
-        return Command::Resize(0);
-    }
-    if 11 < list[0] {
         return Command::Resize(0);
     }
     command_of(list[0], list[1], list[2], list[3], list[4])

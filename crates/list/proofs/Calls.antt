@@ -8,7 +8,7 @@ use Rattle.head.specs.declared.Head.{Head}
 use Rattle.model.specs.Lists.{without, butLast}
 use Rattle.list.specs.declared.Taken.{Taken}
 use Rattle.list.specs.Links.{Linked}
-use Rattle.list.specs.Promises.{Kept, Room, Unlinked, Fronted, Stackable, Released, Given, Held, Removed, Moved, Open, Pushed}
+use Rattle.list.specs.Promises.{Kept, Room, Unlinked, Fronted, Stackable, Released, Given, Held, Removed, Moved, Spare, Pushed}
 use Rattle.list.proofs.Stores.{tail-trans, tail-at, rest-trans}
 use Rattle.list.proofs.Within.{room, room-loose, stackable}
 
@@ -64,7 +64,7 @@ module _ (h : Head) (nx pv st : List ℕ) (s : ℕ) (p : Held h nx pv st s) wher
 
 -- ---- taken, then put in front
 
-module _ (h : Head) (nx pv st : List ℕ) (p : Open h nx pv st) (t : Taken) (st' : List ℕ) (g : Given h t st st') where
+module _ (h : Head) (nx pv st : List ℕ) (p : Spare h nx pv st) (t : Taken) (st' : List ℕ) (g : Given h t st st') where
   pub taken-room : Room (t .head) nx pv (t .slot .0)
   taken-room = room-loose (g .linked nx pv (p .order) (p .free) (p .others) (p .linked))
 

@@ -13,6 +13,8 @@ use lib.Dec.{eqb, ltb, leb}
 use borrow.Author.Tests.{eqb-true, ltb-true, leb-true, lt-ltb, le-ltb, le-leb, eq-eqb}
 use Rattle.head.specs.declared.Head.{Head}
 use Rattle.head.specs.Bounds.{noneMark, unusedMark, mostSlots}
+use Rattle.head.specs.Walks.{walk}
+use Rattle.head.proofs.Walking.{walk-length}
 use Rattle.model.specs.Codes.{count}
 use Rattle.model.proofs.Counting.{count-append}
 use Rattle.list.specs.Order.{below, headOr, lastOr, nextAt, prevAt, placeAt}
@@ -21,9 +23,9 @@ use Rattle.list.specs.Inspect.{allFrom, linksAre, cellOk, bareOk, walkOk
 use Rattle.list.proofs.Marks.{under?, hit, below-in, below-out, below-lt, below-le}
 use Rattle.list.proofs.Chain.{last-append, prev-at, place-at, next-absent, prev-absent, place-absent}
 use Rattle.list.proofs.Walks.{successor}
-use Rattle.list.proofs.Unique.{walk, getD-any}
+use Rattle.list.proofs.Unique.{getD-any}
 use Rattle.list.proofs.Pigeon.{pigeon}
-use Rattle.list.proofs.Walked.{and-l, and-r, and-in, all-at, all-of, length-walk, w-head, w-last, w-top, w-next, w-prev, w-used, w-once, Placed, f-top, f-next, f-place, f-once}
+use Rattle.list.proofs.Walked.{and-l, and-r, and-in, all-at, all-of, w-head, w-last, w-top, w-next, w-prev, w-used, w-once, Placed, f-top, f-next, f-place, f-once}
 
 -- ---- each test, as facts
 
@@ -97,7 +99,7 @@ module _ (h : Head) (nx pv st : List ℕ) (n : Numbers h nx pv st)
     (cs : (k : ℕ) → k < h .slots → cellOk nx pv st (h .depth .0) (h .top .0) k ≡ true)
     (bs : (i : ℕ) → h .top .0 ≤ i → i < h .slots → (getD nx i 0 ≡ unusedMark) × (getD pv i 0 ≡ noneMark)) where
   o : List ℕ
-  o = walk (h .live) (h .front .0) nx
+  o = walk nx (h .front .0) (h .live)
 
   f : List ℕ
   f = take (h .depth .0) st
@@ -145,7 +147,7 @@ module _ (h : Head) (nx pv st : List ℕ) (n : Numbers h nx pv st)
 
   o-length : length o ≡ h .live
   unfolding o
-  o-length = length-walk (h .live) (h .front .0) nx
+  o-length = walk-length nx (h .front .0) (h .live)
 
   o-f-each : (i : ℕ) → count i o + count i f ≡ below i (h .top .0)
   o-f-each = pigeon (h .top .0) o f o-f-once o-f-top (omega (arith, o-length, f-length, n .size))

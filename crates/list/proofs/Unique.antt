@@ -8,25 +8,22 @@ use lib.ListN.{length, getD, drop, take, take-append-drop}
 use lib.Seq.{ext-getD, append-snoc, getD-take, length-take-le}
 use Rattle.head.specs.declared.Head.{Head}
 use Rattle.head.specs.Bounds.{noneMark}
+use Rattle.head.specs.Walks.{walk}
 use Rattle.model.specs.Codes.{count}
 use Rattle.list.specs.Order.{headOr}
 use Rattle.list.specs.Links.{Linked, Rest}
 use Rattle.list.proofs.Walks.{successor}
 
--- k slots from x on, by the links
-abbrev pub walk : ℕ → ℕ → List ℕ → List ℕ
-walk zero x nx = []
-walk (suc k) x nx = x ∷ walk k (getD nx x 0) nx
-
-walk-from : {h : Head} {nx pv st f t : List ℕ} (a b : List ℕ) → Linked h nx pv st (a ++ b) f t → walk (length b) (headOr noneMark b) nx ≡ b
+walk-from : {h : Head} {nx pv st f t : List ℕ} (a b : List ℕ) → Linked h nx pv st (a ++ b) f t → walk nx (headOr noneMark b) (length b) ≡ b
+unfolding walk
 walk-from a [] d = refl
 walk-from {h} {nx} {pv} {st} {f} {t} a (x ∷ b) d =
     ap (λ (l : List ℕ). x ∷ l)
-    (ap (λ (y : ℕ). walk (length b) y nx) (successor d a x b refl)
+    (ap (λ (y : ℕ). walk nx y (length b)) (successor d a x b refl)
     ∙ walk-from (a ++ x ∷ []) b (subst⁻¹ (λ (l : List ℕ). Linked h nx pv st l f t) (append-snoc a x b) d))
 
 -- the order is what the links say
-pub order-is : {h : Head} {nx pv st o f : List ℕ} → Linked h nx pv st o f [] → o ≡ walk (h .live) (h .front .0) nx
+pub order-is : {h : Head} {nx pv st o f : List ℕ} → Linked h nx pv st o f [] → o ≡ walk nx (h .front .0) (h .live)
 order-is {o = o} d =
     let l : _ ≡ length o = d .live ∙ omega arith in
     rw (l, d .front) (sym (walk-from [] o d))

@@ -10,12 +10,12 @@ use lib.ListN.{length, getD}
 use lib.Dec.{eqb, ltb}
 use borrow.Author.Tests.{eqb-true, ltb-true}
 use Rattle.head.specs.Bounds.{noneMark, unusedMark}
+use Rattle.head.specs.Walks.{walk}
 use Rattle.model.specs.Codes.{count}
 use Rattle.model.proofs.Cases.{both}
 use Rattle.list.specs.Order.{headOr, lastOr, nextAt, prevAt, placeAt}
 use Rattle.list.specs.Inspect.{allFrom, walkOk}
 use Rattle.list.proofs.Marks.{same?, under?, hit, miss, ifeq-by}
-use Rattle.list.proofs.Unique.{walk}
 
 pub and-l : (a b : Bool) → (a && b) ≡ true → a ≡ true
 and-l a b e = both a b e .0
@@ -43,10 +43,6 @@ all-of (suc k) i f h =
 
 -- ---- the walk
 
-pub length-walk : (k x : ℕ) (nx : List ℕ) → length (walk k x nx) ≡ k
-length-walk zero x nx = refl
-length-walk (suc k) x nx = ap suc (length-walk k (getD nx x 0) nx)
-
 pub record Step (nx pv : List ℕ) (top back k last cur : ℕ) : Type 0 where
   pub low : cur < top
   pub linked : getD pv cur 0 ≡ last
@@ -69,15 +65,18 @@ module _ (nx pv : List ℕ) (top back : ℕ) where
   unfolding walkOk
   end-last last cur w = eqb-true last back (and-r (eqb cur noneMark) _ w)
 
-  pub w-head : (k last cur : ℕ) → walkOk nx pv top back k last cur ≡ true → headOr noneMark (walk k cur nx) ≡ cur
+  pub w-head : (k last cur : ℕ) → walkOk nx pv top back k last cur ≡ true → headOr noneMark (walk nx cur k) ≡ cur
+  unfolding walk
   w-head zero last cur w = sym (end-cur last cur w)
   w-head (suc k) last cur w = refl
 
-  pub w-last : (k last cur : ℕ) → walkOk nx pv top back k last cur ≡ true → lastOr last (walk k cur nx) ≡ back
+  pub w-last : (k last cur : ℕ) → walkOk nx pv top back k last cur ≡ true → lastOr last (walk nx cur k) ≡ back
+  unfolding walk
   w-last zero last cur w = end-last last cur w
   w-last (suc k) last cur w = w-last k cur (getD nx cur 0) (step k last cur w .more)
 
-  pub w-top : (k last cur : ℕ) → walkOk nx pv top back k last cur ≡ true → (i : ℕ) → 1 ≤ count i (walk k cur nx) → i < top
+  pub w-top : (k last cur : ℕ) → walkOk nx pv top back k last cur ≡ true → (i : ℕ) → 1 ≤ count i (walk nx cur k) → i < top
+  unfolding walk
   w-top zero last cur w i c = absurd (omega arith)
   w-top (suc k) last cur w i c =
       let s = step k last cur w in
@@ -86,7 +85,8 @@ module _ (nx pv : List ℕ) (top back : ℕ) where
       (λ d. w-top k cur (getD nx cur 0) (s .more) i (omega (arith, miss cur i d)))
       (same? cur i)
 
-  pub w-next : (k last cur : ℕ) → walkOk nx pv top back k last cur ≡ true → (i : ℕ) → 1 ≤ count i (walk k cur nx) → nextAt (walk k cur nx) i ≡ getD nx i 0
+  pub w-next : (k last cur : ℕ) → walkOk nx pv top back k last cur ≡ true → (i : ℕ) → 1 ≤ count i (walk nx cur k) → nextAt (walk nx cur k) i ≡ getD nx i 0
+  unfolding walk
   w-next zero last cur w i c = absurd (omega arith)
   w-next (suc k) last cur w i c =
       let s = step k last cur w in
@@ -94,7 +94,8 @@ module _ (nx pv : List ℕ) (top back : ℕ) where
       (λ e. w-head k cur (getD nx cur 0) (s .more) ∙ ap (λ (j : ℕ). getD nx j 0) e)
       (λ d. w-next k cur (getD nx cur 0) (s .more) i (omega (arith, miss cur i d)))
 
-  pub w-prev : (k last cur : ℕ) → walkOk nx pv top back k last cur ≡ true → (i d : ℕ) → 1 ≤ count i (walk k cur nx) → prevAt last (walk k cur nx) i d ≡ getD pv i 0
+  pub w-prev : (k last cur : ℕ) → walkOk nx pv top back k last cur ≡ true → (i d : ℕ) → 1 ≤ count i (walk nx cur k) → prevAt last (walk nx cur k) i d ≡ getD pv i 0
+  unfolding walk
   w-prev zero last cur w i d c = absurd (omega arith)
   w-prev (suc k) last cur w i d c =
       let s = step k last cur w in
@@ -106,7 +107,8 @@ module _ (nx pv : List ℕ) (top back : ℕ) where
   w-cur zero last cur t w e = omega (arith, end-cur last cur w)
   w-cur (suc k) last cur t w e = omega (arith, step k last cur w .low)
 
-  pub w-used : (k last cur : ℕ) → top ≤ unusedMark → walkOk nx pv top back k last cur ≡ true → (i : ℕ) → 1 ≤ count i (walk k cur nx) → getD nx i 0 ≡ unusedMark → ⊥
+  pub w-used : (k last cur : ℕ) → top ≤ unusedMark → walkOk nx pv top back k last cur ≡ true → (i : ℕ) → 1 ≤ count i (walk nx cur k) → getD nx i 0 ≡ unusedMark → ⊥
+  unfolding walk
   w-used zero last cur t w i c e = omega arith
   w-used (suc k) last cur t w i c e =
       let s = step k last cur w in
@@ -116,7 +118,8 @@ module _ (nx pv : List ℕ) (top back : ℕ) where
       (same? cur i)
 
   -- the slot that a slot of the walk is linked back to stands in the walk, or just before it
-  w-back : (k last cur : ℕ) → walkOk nx pv top back k last cur ≡ true → (i : ℕ) → 1 ≤ count i (walk k cur nx) → 1 ≤ count (getD pv i 0) (last ∷ walk k cur nx)
+  w-back : (k last cur : ℕ) → walkOk nx pv top back k last cur ≡ true → (i : ℕ) → 1 ≤ count i (walk nx cur k) → 1 ≤ count (getD pv i 0) (last ∷ walk nx cur k)
+  unfolding walk
   w-back zero last cur w i c = absurd (omega arith)
   w-back (suc k) last cur w i c =
       let s = step k last cur w in
@@ -126,24 +129,25 @@ module _ (nx pv : List ℕ) (top back : ℕ) where
       (same? cur i)
 
   -- no slot stands in the walk twice
-  pub w-once : (k last cur : ℕ) → walkOk nx pv top back k last cur ≡ true → count last (walk k cur nx) ≡ 0 → (i : ℕ) → count i (walk k cur nx) ≤ 1
+  pub w-once : (k last cur : ℕ) → walkOk nx pv top back k last cur ≡ true → count last (walk nx cur k) ≡ 0 → (i : ℕ) → count i (walk nx cur k) ≤ 1
+  unfolding walk
   w-once zero last cur w z i = omega arith
   w-once (suc k) last cur w z i =
       let s = step k last cur w in
-      let none-left : count cur (walk k (getD nx cur 0) nx) ≡ 0 =
+      let none-left : count cur (walk nx (getD nx cur 0) k) ≡ 0 =
       ⊎-elim
-      (λ (l : 0 < count cur (walk k (getD nx cur 0) nx)). absurd (again s l))
-      (λ (g : count cur (walk k (getD nx cur 0) nx) ≤ 0). omega arith)
-      (under? 0 (count cur (walk k (getD nx cur 0) nx))) in
+      (λ (l : 0 < count cur (walk nx (getD nx cur 0) k)). absurd (again s l))
+      (λ (g : count cur (walk nx (getD nx cur 0) k) ≤ 0). omega arith)
+      (under? 0 (count cur (walk nx (getD nx cur 0) k))) in
       ⊎-elim
-      (λ e. let c0 : count i (walk k (getD nx cur 0) nx) ≡ 0 = subst (λ (j : ℕ). count j (walk k (getD nx cur 0) nx) ≡ 0) e none-left in omega (arith, hit cur i e))
+      (λ e. let c0 : count i (walk nx (getD nx cur 0) k) ≡ 0 = subst (λ (j : ℕ). count j (walk nx (getD nx cur 0) k) ≡ 0) e none-left in omega (arith, hit cur i e))
       (λ d. omega (arith, miss cur i d, w-once k cur (getD nx cur 0) (s .more) none-left i))
       (same? cur i)
     where
-      again : Step nx pv top back k last cur → 1 ≤ count cur (walk k (getD nx cur 0) nx) → ⊥
+      again : Step nx pv top back k last cur → 1 ≤ count cur (walk nx (getD nx cur 0) k) → ⊥
       again s l =
-          let b : 1 ≤ count last (cur ∷ walk k (getD nx cur 0) nx) =
-          subst (λ (j : ℕ). 1 ≤ count j (cur ∷ walk k (getD nx cur 0) nx)) (s .linked) (w-back k cur (getD nx cur 0) (s .more) cur l) in
+          let b : 1 ≤ count last (cur ∷ walk nx (getD nx cur 0) k) =
+          subst (λ (j : ℕ). 1 ≤ count j (cur ∷ walk nx (getD nx cur 0) k)) (s .linked) (w-back k cur (getD nx cur 0) (s .more) cur l) in
           omega arith
 
 -- ---- the stack

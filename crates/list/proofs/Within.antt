@@ -10,7 +10,7 @@ use Rattle.head.specs.Bounds.{noneMark}
 use Rattle.model.specs.Lists.{only}
 use Rattle.model.specs.Codes.{count}
 use Rattle.list.specs.Links.{Linked}
-use Rattle.list.specs.Promises.{Room, Stackable, Vacant, Held, Open, Enough}
+use Rattle.list.specs.Promises.{Room, Stackable, Vacant, Held, Spare, Enough}
 use Rattle.list.proofs.Marks.{hit, below-lt, below-le}
 use Rattle.list.proofs.Places.{only-count}
 
@@ -38,7 +38,7 @@ module _ {h : Head} {nx pv st o f t : List ℕ} (d : Linked h nx pv st o f t) wh
   pub held : (i s : ℕ) → only i o ≡ s ∷ [] → Held h nx pv st s
   held i s e = record { order = o; free = f; others = t; place = i; there = e; linked = d }
 
-  pub open-to : h .live < h .slots → Open h nx pv st
+  pub open-to : h .live < h .slots → Spare h nx pv st
   open-to v = record { order = o; free = f; others = t; linked = d; some = v }
 
   pub enough : (k : ℕ) → k ≤ length o → Enough h nx pv st k

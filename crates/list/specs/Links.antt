@@ -2,8 +2,8 @@
 -- Assumes nothing.
 use Prim.Native.Nat.{ℕ, _+_, _≤_, _<_}
 use mathlib.Core.Path.{_≡_}
-use mathlib.Core.List.{List, [], _∷_, _++_}
-use lib.ListN.{length, getD, drop}
+use mathlib.Core.List.{List, []}
+use lib.ListN.{length, getD}
 use Rattle.head.specs.declared.Head.{Head}
 use Rattle.head.specs.Bounds.{noneMark, mostSlots}
 use Rattle.model.specs.Codes.{count}

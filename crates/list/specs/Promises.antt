@@ -103,7 +103,7 @@ pub record Moved (h r : Head) (nx pv nx' pv' : List ℕ) (s : ℕ) : Type 0 wher
   pub kept : (st order free others : List ℕ) (i : ℕ) → only i order ≡ s ∷ [] → Linked h nx pv st order free others → Kept others nx pv nx' pv'
 
 -- a described state has a slot to give
-pub record Open (h : Head) (nx pv st : List ℕ) : Type 0 where
+pub record Spare (h : Head) (nx pv st : List ℕ) : Type 0 where
   pub order : List ℕ
   pub free : List ℕ
   pub others : List ℕ

@@ -7,7 +7,7 @@ ghost use Rattle.list.specs.Steps.{putAt, choice};
 ghost use Rattle.head.specs.Bounds.{noneMark};
 ghost use Rattle.list.specs.Links.{Long};
 ghost use Rattle.list.specs.Inspect.{linksAre, cellOk, allFrom, bareOk, walkOk, numbersOk, Inspected};
-ghost use Rattle.list.specs.Promises.{Room, Unlinked, Fronted, Stackable, Released, Vacant, Given, Held, Removed, Moved, Open, Pushed, Enough, Evicted, Cleared};
+ghost use Rattle.list.specs.Promises.{Room, Unlinked, Fronted, Stackable, Released, Vacant, Given, Held, Removed, Moved, Spare, Pushed, Enough, Evicted, Cleared};
 use head::Head;
 use head::Place;
 use head::Slot;
@@ -28,11 +28,12 @@ pub fn put(list: &mut [u32], n: u32, at: u32, v: u32)
     }
 }
 
-// inside if at is below n, else outside.
-pub fn choose(n: u32, at: u32, inside: u32, outside: u32) -> u32
-    ensures { λ r. ⌜ r ≡ choice n at inside outside ⌝ }
+// inside if the slot is below n, else outside.
+pub fn choose(n: u32, slot: Slot, inside: Slot, outside: Slot) -> Slot
+    ensures { λ r. ⌜ r .0 ≡ choice n (slot .0) (inside .0) (outside .0) ⌝ }
 {
-    if at < n { inside } else { outside }
+    let i = slot.0;
+    if i < n { inside } else { outside }
 }
 
 // The number at a place.
@@ -49,13 +50,12 @@ pub fn unlink(head: Head, next: &mut [u32], prev: &mut [u32], slot: Slot) -> Hea
     ensures { λ r. ⌜ Unlinked head r (now (next .entry)) (now (prev .entry)) (now (next .exit)) (now (prev .exit)) (slot .0) ⌝ }
 {
     let n = head.slots;
-    let i = slot.0;
-    let p = at(prev, i);
-    let q = at(next, i);
-    put(next, n, p, q);
-    put(prev, n, q, p);
-    let front = Slot(choose(n, p, head.front.0, q));
-    let back = Slot(choose(n, q, head.back.0, p));
+    let p = ahead(prev, slot);
+    let q = after(next, slot);
+    put(next, n, p.0, q.0);
+    put(prev, n, q.0, p.0);
+    let front = choose(n, p, head.front, q);
+    let back = choose(n, q, head.back, p);
     let mut h = head;
     h.front = front;
     h.back = back;
@@ -70,11 +70,11 @@ pub fn link_front(head: Head, next: &mut [u32], prev: &mut [u32], slot: Slot) ->
     let n = head.slots;
     let i = slot.0;
     let f = head.front.0;
-    let b = head.back.0;
+    let b = head.back;
     put(prev, n, f, i);
     put(prev, n, i, Head::NONE);
     put(next, n, i, f);
-    let back = Slot(choose(n, b, b, i));
+    let back = choose(n, b, b, slot);
     let mut h = head;
     h.front = slot;
     h.back = back;
@@ -136,7 +136,7 @@ pub fn next(head: Head, stack: &mut [u32]) -> Taken
 
 // Takes a slot and puts it at the front of the order.
 pub fn push_front(head: Head, next: &mut [u32], prev: &mut [u32], stack: &mut [u32]) -> Taken
-    requires { ⌜ Open head (now next) (now prev) (now stack) ⌝ }
+    requires { ⌜ Spare head (now next) (now prev) (now stack) ⌝ }
     ensures { λ r. ⌜ Pushed head r (now (next .entry)) (now (prev .entry)) (now (stack .entry)) (now (next .exit)) (now (prev .exit)) (now (stack .exit)) ⌝ }
 {
     let t = crate::next(head, stack);
@@ -230,26 +230,30 @@ pub fn ahead(prev: &[u32], slot: Slot) -> Slot
     Slot(at(prev, i))
 }
 
-// Whether slot s's links hold n and p.
-fn links_are(next: &[u32], prev: &[u32], s: u32, n: u32, p: u32) -> bool
-    requires { ⌜ (s < length (now next)) × (s < length (now prev)) ⌝ }
-    ensures { λ r. ⌜ r ≡ linksAre (now (next .entry)) (now (prev .entry)) s n p ⌝ }
+// Whether the slot's links hold n and p.
+fn links_are(next: &[u32], prev: &[u32], slot: Slot, n: u32, p: u32) -> bool
+    requires { ⌜ (slot .0 < length (now next)) × (slot .0 < length (now prev)) ⌝ }
+    ensures { λ r. ⌜ r ≡ linksAre (now (next .entry)) (now (prev .entry)) (slot .0) n p ⌝ }
 {
+    let s = slot.0;
     if next[s as usize] != n {
         return false;
     }
     prev[s as usize] == p
 }
 
-// Whether the stack's place k is right.
-fn cell_ok(next: &[u32], prev: &[u32], stack: &[u32], depth: u32, top: u32, k: u32) -> bool
-    requires { ⌜ (k < length (now stack)) × (top ≤ length (now next)) × (top ≤ length (now prev)) ⌝ }
-    ensures { λ r. ⌜ r ≡ cellOk (now (next .entry)) (now (prev .entry)) (now (stack .entry)) depth top k ⌝ }
+// Whether the stack's place is right.
+fn cell_ok(next: &[u32], prev: &[u32], stack: &[u32], depth: Place, top: Slot, place: Place) -> bool
+    requires { ⌜ (place .0 < length (now stack)) × (top .0 ≤ length (now next)) × (top .0 ≤ length (now prev)) ⌝ }
+    ensures { λ r. ⌜ r ≡ cellOk (now (next .entry)) (now (prev .entry)) (now (stack .entry)) (depth .0) (top .0) (place .0) ⌝ }
 {
+    let k = place.0;
+    let d = depth.0;
+    let t = top.0;
     let s = stack[k as usize];
-    if k < depth {
-        if s < top {
-            return links_are(next, prev, s, Head::UNUSED, k);
+    if k < d {
+        if s < t {
+            return links_are(next, prev, Slot(s), Head::UNUSED, k);
         }
         return false;
     }
@@ -257,13 +261,13 @@ fn cell_ok(next: &[u32], prev: &[u32], stack: &[u32], depth: u32, top: u32, k: u
 }
 
 // Whether each of the stack's first n places is right.
-pub fn cells_ok(next: &[u32], prev: &[u32], stack: &[u32], depth: u32, top: u32, n: u32) -> bool
-    requires { ⌜ (n ≤ length (now stack)) × (top ≤ length (now next)) × (top ≤ length (now prev)) ⌝ }
-    ensures { λ r. ⌜ r ≡ allFrom n 0 (cellOk (now (next .entry)) (now (prev .entry)) (now (stack .entry)) depth top) ⌝ }
+pub fn cells_ok(next: &[u32], prev: &[u32], stack: &[u32], depth: Place, top: Slot, n: u32) -> bool
+    requires { ⌜ (n ≤ length (now stack)) × (top .0 ≤ length (now next)) × (top .0 ≤ length (now prev)) ⌝ }
+    ensures { λ r. ⌜ r ≡ allFrom n 0 (cellOk (now (next .entry)) (now (prev .entry)) (now (stack .entry)) (depth .0) (top .0)) ⌝ }
 {
     let mut k: u32 = 0;
     while k < n {
-        if !cell_ok(next, prev, stack, depth, top, k) {
+        if !cell_ok(next, prev, stack, depth, top, Place(k)) {
             return false;
         }
         k += 1;
@@ -272,13 +276,13 @@ pub fn cells_ok(next: &[u32], prev: &[u32], stack: &[u32], depth: u32, top: u32,
 }
 
 // Whether each slot from top up to n is bare.
-pub fn bare_ok(next: &[u32], prev: &[u32], top: u32, n: u32) -> bool
-    requires { ⌜ (top ≤ n) × (n ≤ length (now next)) × (n ≤ length (now prev)) ⌝ }
-    ensures { λ r. ⌜ r ≡ allFrom (n - top) top (bareOk (now (next .entry)) (now (prev .entry))) ⌝ }
+pub fn bare_ok(next: &[u32], prev: &[u32], top: Slot, n: u32) -> bool
+    requires { ⌜ (top .0 ≤ n) × (n ≤ length (now next)) × (n ≤ length (now prev)) ⌝ }
+    ensures { λ r. ⌜ r ≡ allFrom (n - top .0) (top .0) (bareOk (now (next .entry)) (now (prev .entry))) ⌝ }
 {
-    let mut k: u32 = top;
+    let mut k = top.0;
     while k < n {
-        if !links_are(next, prev, k, Head::UNUSED, Head::NONE) {
+        if !links_are(next, prev, Slot(k), Head::UNUSED, Head::NONE) {
             return false;
         }
         k += 1;
@@ -287,15 +291,17 @@ pub fn bare_ok(next: &[u32], prev: &[u32], top: u32, n: u32) -> bool
 }
 
 // Whether a walk of live slots from front ends at back, each slot linked to the one before.
-fn walk_ok(next: &[u32], prev: &[u32], top: u32, back: u32, live: u32, front: u32) -> bool
-    requires { ⌜ (top ≤ length (now next)) × (top ≤ length (now prev)) ⌝ }
-    ensures { λ r. ⌜ r ≡ walkOk (now (next .entry)) (now (prev .entry)) top back live noneMark front ⌝ }
+fn walk_ok(next: &[u32], prev: &[u32], top: Slot, back: Slot, live: u32, front: Slot) -> bool
+    requires { ⌜ (top .0 ≤ length (now next)) × (top .0 ≤ length (now prev)) ⌝ }
+    ensures { λ r. ⌜ r ≡ walkOk (now (next .entry)) (now (prev .entry)) (top .0) (back .0) live noneMark (front .0) ⌝ }
 {
+    let t = top.0;
+    let b = back.0;
     let mut left = live;
     let mut last = Head::NONE;
-    let mut cur = front;
+    let mut cur = front.0;
     while 0 < left {
-        if top <= cur {
+        if t <= cur {
             return false;
         }
         if prev[cur as usize] != last {
@@ -308,7 +314,7 @@ fn walk_ok(next: &[u32], prev: &[u32], top: u32, back: u32, live: u32, front: u3
     if cur != Head::NONE {
         return false;
     }
-    last == back
+    last == b
 }
 
 // Whether the head's numbers fit each other, and lists of lengths a, b and c.
@@ -344,15 +350,14 @@ pub fn numbers_ok(head: Head, a: usize, b: usize, c: usize) -> bool
 pub fn inspect_links(head: Head, next: &[u32], prev: &[u32], stack: &[u32]) -> bool
     ensures { λ r. ⌜ Inspected head (now (next .entry)) (now (prev .entry)) (now (stack .entry)) r ⌝ }
 {
-    let top = head.top.0;
     if !numbers_ok(head, next.len(), prev.len(), stack.len()) {
         return false;
     }
-    if !walk_ok(next, prev, top, head.back.0, head.live, head.front.0) {
+    if !walk_ok(next, prev, head.top, head.back, head.live, head.front) {
         return false;
     }
-    if !cells_ok(next, prev, stack, head.depth.0, top, head.slots) {
+    if !cells_ok(next, prev, stack, head.depth, head.top, head.slots) {
         return false;
     }
-    bare_ok(next, prev, top, head.slots)
+    bare_ok(next, prev, head.top, head.slots)
 }

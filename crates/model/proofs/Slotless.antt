@@ -15,12 +15,12 @@ use Rattle.model.specs.Lists.{oldest}
 use Rattle.model.specs.Desk.{plain, Desk, absent, find, live}
 use Rattle.model.specs.Slots.{taken, topAfter, pushed, evicted}
 use Rattle.model.specs.Perform.{Cache, verdict, perform}
-use Rattle.model.specs.Claims.{Alike}
+use Rattle.model.specs.Claims.{SlotsApart}
 use Rattle.model.proofs.Cases.{and-no}
 use Rattle.model.proofs.Backs.{length-oldest, butLast-back, oldest-back, butLast-none, oldest-none}
 
 -- entries, answers and rows come from the desk alone
-pub slotless : (m : Command) (lent : ℕ) (c d : Cache) → c .desk ≡ d .desk → Alike (perform m lent c) (perform m lent d)
+pub slotless : (m : Command) (lent : ℕ) (c d : Cache) → c .desk ≡ d .desk → SlotsApart (perform m lent c) (perform m lent d)
 unfolding perform
 slotless m lent c d h = record { answer = rw h; rows = rw h; desk = rw h }
 

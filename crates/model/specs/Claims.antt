@@ -41,7 +41,7 @@ pub record Lawful (d : Desk) : Type 0 where
   pub light : d .kind ≡ plain → weighs (d .entries) ≡ 0
 
 -- two outcomes that differ in slots at most
-pub record Alike (o p : Outcome) : Type 0 where
+pub record SlotsApart (o p : Outcome) : Type 0 where
   pub answer : o .answer ≡ p .answer
   pub rows : o .rows ≡ p .rows
   pub desk : o .left .desk ≡ p .left .desk

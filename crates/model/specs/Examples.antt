@@ -13,17 +13,19 @@ use Rattle.head.specs.declared.Command.the-variants.{Len, Weight, IsFull, Front
 use Rattle.model.specs.Desk.{Kind, plain, weighed, entry}
 use Rattle.model.specs.Perform.{Cache, Outcome, fresh, verdict, perform}
 
--- what a run shows: its answers, the rows it handed out, and the order, slots and stack that it leaves
+-- what a run shows: its answers, the rows it handed out, and the order, slots, stack, `top` and capacity that it leaves
 pub record Shown : Type 0 where
   pub answers : List Answer
   pub rows : List Row
   pub order : List Row
   pub slots : List ℕ
   pub stack : List ℕ
+  pub top : ℕ
+  pub capacity : ℕ
 
 -- what is left, before any call
 abbrev resting : Cache → Shown
-resting c = record { answers = []; rows = []; order = c .desk .entries; slots = c .slots .order; stack = c .slots .free }
+resting c = record { answers = []; rows = []; order = c .desk .entries; slots = c .slots .order; stack = c .slots .free; top = c .slots .top; capacity = c .desk .capacity }
 
 -- a call's answer and rows in front of what the rest of the run shows
 abbrev then : Outcome → Shown → Shown
@@ -33,6 +35,8 @@ then o s = record {
   order = s .order;
   slots = s .slots;
   stack = s .stack;
+  top = s .top;
+  capacity = s .capacity;
 }
 
 -- a run on a cache, each call with 8 rows lent
@@ -79,6 +83,8 @@ A : day plain 2 2 (put 1 ∷ put 2 ∷ put 3 ∷ []) ≡ record {
   order = row 3 ∷ row 2 ∷ [];
   slots = 0 ∷ 1 ∷ [];
   stack = [];
+  top = 2;
+  capacity = 2;
 }
 unfolding perform verdict
 A = refl
@@ -90,6 +96,8 @@ B : day plain 2 2 (put 1 ∷ put 2 ∷ get 1 ∷ put 3 ∷ []) ≡ record {
   order = row 3 ∷ row 1 ∷ [];
   slots = 1 ∷ 0 ∷ [];
   stack = [];
+  top = 2;
+  capacity = 2;
 }
 unfolding perform verdict
 B = refl
@@ -101,6 +109,8 @@ C : day plain 2 2 (put 1 ∷ put 2 ∷ peek 1 ∷ put 3 ∷ []) ≡ record {
   order = row 3 ∷ row 2 ∷ [];
   slots = 0 ∷ 1 ∷ [];
   stack = [];
+  top = 2;
+  capacity = 2;
 }
 unfolding perform verdict
 C = refl
@@ -112,6 +122,8 @@ D : day plain 2 2 (putStamped 1 7 10 ∷ putStamped 1 8 11 ∷ Front ∷ putw 1 
   order = entry 1 8 12 0 ∷ [];
   slots = 0 ∷ [];
   stack = [];
+  top = 1;
+  capacity = 2;
 }
 unfolding perform verdict
 D = refl
@@ -127,6 +139,8 @@ E : day weighed 10 4 (loads (putw 3 7 300 1 ∷ Len ∷ Weight ∷ [])) ≡ reco
   order = entry 3 7 300 1 ∷ entry 2 7 200 4 ∷ [];
   slots = 0 ∷ 1 ∷ [];
   stack = [];
+  top = 2;
+  capacity = 10;
 }
 unfolding perform verdict
 E = refl
@@ -138,6 +152,8 @@ F : day weighed 10 4 (loads (putw 1 8 101 5 ∷ [])) ≡ record {
   order = entry 1 8 101 5 ∷ [];
   slots = 1 ∷ [];
   stack = 0 ∷ [];
+  top = 2;
+  capacity = 10;
 }
 unfolding perform verdict
 F = refl
@@ -149,6 +165,8 @@ G : day weighed 10 4 (putw 1 0 10 10 ∷ putw 2 0 20 0 ∷ putw 3 0 30 9 ∷ IsF
   order = entry 3 0 30 9 ∷ [];
   slots = 0 ∷ [];
   stack = [];
+  top = 1;
+  capacity = 10;
 }
 unfolding perform verdict
 G = refl
@@ -160,6 +178,8 @@ G-one : day weighed 1 4 (putw 1 0 10 1 ∷ putw 1 0 10 0 ∷ []) ≡ record {
   order = row 1 ∷ [];
   slots = 0 ∷ [];
   stack = [];
+  top = 1;
+  capacity = 1;
 }
 unfolding perform verdict
 G-one = refl
@@ -171,6 +191,8 @@ H : day weighed 10 4 (loads (Resize 9 ∷ Resize 8 ∷ [])) ≡ record {
   order = entry 2 7 200 4 ∷ [];
   slots = 0 ∷ [];
   stack = 1 ∷ [];
+  top = 2;
+  capacity = 8;
 }
 unfolding perform verdict
 H = refl
@@ -182,6 +204,8 @@ I : day plain 3 8 (put 10 ∷ put 20 ∷ put 30 ∷ pop 10 ∷ Resize 5 ∷ []) 
   order = row 30 ∷ row 20 ∷ [];
   slots = 2 ∷ 1 ∷ [];
   stack = 0 ∷ [];
+  top = 3;
+  capacity = 5;
 }
 unfolding perform verdict
 I = refl
@@ -193,6 +217,8 @@ J : day plain 4 4 (put 10 ∷ put 20 ∷ put 30 ∷ pop 20 ∷ Resize 3 ∷ []) 
   order = row 30 ∷ row 10 ∷ [];
   slots = 0 ∷ 1 ∷ [];
   stack = 2 ∷ [];
+  top = 3;
+  capacity = 3;
 }
 unfolding perform verdict
 J = refl
@@ -204,6 +230,8 @@ K : day plain 2 2 (putStamped 1 0 40 ∷ put 2 ∷ TryPutOrModify (record { 0 = 
   order = entry 1 0 40 0 ∷ row 2 ∷ [];
   slots = 0 ∷ 1 ∷ [];
   stack = [];
+  top = 2;
+  capacity = 2;
 }
 unfolding perform verdict
 K = refl
@@ -215,6 +243,8 @@ L : day plain 5 2 (put 1 ∷ put 2 ∷ put 3 ∷ put 2 ∷ []) ≡ record {
   order = row 2 ∷ row 1 ∷ [];
   slots = 1 ∷ 0 ∷ [];
   stack = [];
+  top = 2;
+  capacity = 5;
 }
 unfolding perform verdict
 L = refl

@@ -8,3 +8,4 @@ pub mod Codes
 pub mod Runs
 pub mod Examples
 pub mod Claims
+pub mod Causes

@@ -1,4 +1,4 @@
--- Where the entries stand: the slot of each, the free stack, and `top`, the first slot not used yet.
+-- Where the entries stand: the slot of each, the free stack, and `top`, the crate's `nodes.len()`: below it each slot holds an entry or waits on the stack, from it on none does.
 -- Assumes nothing.
 use Prim.Native.Nat.{ℕ, zero, suc, _-_, min}
 use mathlib.Core.List.{List, [], _∷_, _++_}

@@ -1,31 +1,30 @@
 -- Opening makes the lists describe a fresh cache, or touches nothing.
 -- Assumes nothing.
-use Prim.Native.Nat.{ℕ, _*_, _≤_, _<_}
+use Prim.Native.Nat.{ℕ, _≤_}
 use mathlib.Core.Bool.{Bool, true, false, cond, _&&_, true≢false}
-use mathlib.Core.List.{List, []}
 use mathlib.Core.Logic.{⊎-elim}
 use mathlib.Core.Path.{_≡_, refl, sym, ap, _∙_, subst}
 use native.Mathlib.Omega.{arith}
 use lib.Dec.{leb}
-use lib.ListN.{length}
-use borrow.Author.Tests.{leb-true, le-leb, lt-leb, eq-eqb, ne-eqb}
+use borrow.Author.Tests.{leb-true, eq-eqb, ne-eqb}
 use Rattle.head.specs.declared.Head.{Head}
 use Rattle.head.specs.declared.Refusal.{Refusal}
 use Rattle.head.specs.declared.Refusal.the-variants.{NotOpened}
-use Rattle.head.specs.Bounds.{allowed, mostSlots}
+use Rattle.head.specs.Bounds.{allowed}
 use Rattle.head.specs.Fresh.{freshHead}
-use Rattle.model.specs.Desk.{Kind, plain, weighed, kindNumber, kindOf}
+use Rattle.model.specs.Desk.{kindNumber, kindOf}
 use Rattle.model.specs.Perform.{Cache, Opening, fresh, opening, refused, opened}
 use Rattle.model.proofs.Cases.{both, and-no}
 use Rattle.model.proofs.Lawful.{fresh-lawful}
 use Rattle.list.proofs.Marks.{same?}
 use Rattle.store.specs.State.{Describes}
 use Rattle.store.specs.Acts.{Spacious, Emptied}
+use Rattle.store.proofs.Lengths.{all-reach}
 use Rattle.store.proofs.Emptied.{empty-described}
 use Rattle.plan.specs.States.{State, Means, TailsKept}
 use Rattle.opening.specs.declared.Opened.{Opened}
 use Rattle.opening.specs.declared.Opened.the-variants.{Cache as Began, No}
-use Rattle.opening.specs.Begun.{longEnough, spacious, Opens}
+use Rattle.opening.specs.Begun.{spacious, Opens}
 
 -- ---- which of the two an opening is
 
@@ -66,34 +65,6 @@ module _ (kind c n : ℕ) (s : State) where
     refuses = λ e z. absurd (true≢false (sym (ap (λ (b : Bool). began (cond b (opened (fresh (kindOf kind) c n)) (refused NotOpened))) y) ∙ ap began z));
   }
 
--- ---- the lengths
-
-module _ (n a b c d e f g h : ℕ) where
-  pub short-1 : a < n → false ≡ longEnough n a b c d e f g h
-  short-1 p = rw (lt-leb n a p) refl
-
-  pub short-2 : n ≤ a → b < n → false ≡ longEnough n a b c d e f g h
-  short-2 x p = rw (le-leb n a x, lt-leb n b p) refl
-
-  pub short-3 : n ≤ a → n ≤ b → c < n → false ≡ longEnough n a b c d e f g h
-  short-3 x y p = rw (le-leb n a x, le-leb n b y, lt-leb n c p) refl
-
-  pub short-4 : n ≤ a → n ≤ b → n ≤ c → d < n → false ≡ longEnough n a b c d e f g h
-  short-4 x y z p = rw (le-leb n a x, le-leb n b y, le-leb n c z, lt-leb n d p) refl
-
-  module _ (x : n ≤ a) (y : n ≤ b) (z : n ≤ c) (w : n ≤ d) where
-    pub short-5 : e < n → false ≡ longEnough n a b c d e f g h
-    short-5 p = rw (le-leb n a x, le-leb n b y, le-leb n c z, le-leb n d w, lt-leb n e p) refl
-
-    pub short-6 : n ≤ e → f < n → false ≡ longEnough n a b c d e f g h
-    short-6 u p = rw (le-leb n a x, le-leb n b y, le-leb n c z, le-leb n d w, le-leb n e u, lt-leb n f p) refl
-
-    pub short-7 : n ≤ e → n ≤ f → g < n → false ≡ longEnough n a b c d e f g h
-    short-7 u v p = rw (le-leb n a x, le-leb n b y, le-leb n c z, le-leb n d w, le-leb n e u, le-leb n f v, lt-leb n g p) refl
-
-    pub long-8 : n ≤ e → n ≤ f → n ≤ g → leb (2 * n) h ≡ longEnough n a b c d e f g h
-    long-8 u v t = rw (le-leb n a x, le-leb n b y, le-leb n c z, le-leb n d w, le-leb n e u, le-leb n f v, le-leb n g t) refl
-
 -- ---- the emptied lists
 
 kind-number : (k : ℕ) → k ≤ 1 → kindNumber (kindOf k) ≡ k
@@ -104,34 +75,15 @@ kind-number k h =
     (same? k 0)
 
 module _ (kind c n : ℕ) (s : State) (a : allowed kind c n ≡ true) (l : spacious n s ≡ true) where
-  long-parts : (n ≤ length (s .fields .codes)) × (n ≤ length (s .fields .stamps)) × (n ≤ length (s .fields .values)) × (n ≤ length (s .fields .weights)) × (n ≤ length (s .nexts)) × (n ≤ length (s .prevs)) × (n ≤ length (s .stack)) × (2 * n ≤ length (s .cells))
-  long-parts =
-      let p1 = both (leb n (length (s .fields .codes))) _ l in
-      let p2 = both (leb n (length (s .fields .stamps))) _ (p1 .1) in
-      let p3 = both (leb n (length (s .fields .values))) _ (p2 .1) in
-      let p4 = both (leb n (length (s .fields .weights))) _ (p3 .1) in
-      let p5 = both (leb n (length (s .nexts))) _ (p4 .1) in
-      let p6 = both (leb n (length (s .prevs))) _ (p5 .1) in
-      let p7 = both (leb n (length (s .stack))) (leb (2 * n) (length (s .cells))) (p6 .1) in (
-        leb-true n (length (s .fields .codes)) (p1 .0),
-        leb-true n (length (s .fields .stamps)) (p2 .0),
-        leb-true n (length (s .fields .values)) (p3 .0),
-        leb-true n (length (s .fields .weights)) (p4 .0),
-        leb-true n (length (s .nexts)) (p5 .0),
-        leb-true n (length (s .prevs)) (p6 .0),
-        leb-true n (length (s .stack)) (p7 .0),
-        leb-true (2 * n) (length (s .cells)) (p7 .1),
-      )
-
   pub fresh-spacious : {g : Head} → g ≡ freshHead kind c n → Spacious g (s .fields) (s .nexts) (s .prevs) (s .stack) (s .cells)
   fresh-spacious q =
       let w = fresh-lawful kind c n a in
-      let p = long-parts in
+      let p = all-reach n (s .fields) (s .nexts) (s .prevs) (s .stack) (s .cells) l in
       rw q (record {
         some = w .room .0;
-        reach = record { codes = p .0; stamps = p .1; values = p .2; weights = p .3 };
-        links = record { small = w .room .1; nexts = p .4; prevs = p .5; stacks = p .6 };
-        table = p .7;
+        reach = p .reach;
+        links = record { small = w .room .1; nexts = p .nexts; prevs = p .prevs; stacks = p .stacks };
+        table = p .table;
       })
 
   module _ {h : Head} (t : State) (e : Emptied (freshHead kind c n) (s .fields) (s .nexts) (s .prevs) (s .stack) (s .cells) h (t .fields) (t .nexts) (t .prevs) (t .stack) (t .cells)) where

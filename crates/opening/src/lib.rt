@@ -1,54 +1,14 @@
 // Opening a cache, in lists that may hold anything.
 use head::Head;
 use head::Refusal;
-ghost use mathlib.Core.Path.{_≡_};
 ghost use Rattle.head.specs.Fresh.{freshHead};
 ghost use Rattle.plan.specs.States.{state};
-ghost use Rattle.opening.specs.Begun.{longEnough, Opens};
+ghost use Rattle.opening.specs.Begun.{Opens};
 
 // What opening gives: the head of a cache that holds nothing, or the refusal.
 pub enum Opened {
     Cache(Head),
     No(Refusal),
-}
-
-// Whether lists of these lengths have room for n slots.
-fn long_enough(
-    n: u32,
-    codes: usize,
-    stamps: usize,
-    values: usize,
-    weights: usize,
-    next: usize,
-    prev: usize,
-    stack: usize,
-    cells: usize,
-) -> bool
-    ensures { λ r. ⌜ r ≡ longEnough n codes stamps values weights next prev stack cells ⌝ }
-{
-    let m = n as usize;
-    if codes < m {
-        return false;
-    }
-    if stamps < m {
-        return false;
-    }
-    if values < m {
-        return false;
-    }
-    if weights < m {
-        return false;
-    }
-    if next < m {
-        return false;
-    }
-    if prev < m {
-        return false;
-    }
-    if stack < m {
-        return false;
-    }
-    2 * m <= cells
 }
 
 // Opens a cache in lists that may hold anything: what N slots need is made empty.
@@ -70,7 +30,7 @@ pub fn open(
     if !Head::allows(kind, capacity, slots) {
         return Opened::No(Refusal::NotOpened);
     }
-    if !long_enough(
+    if !store::long_enough(
         slots,
         codes.len(),
         stamps.len(),

@@ -1,11 +1,9 @@
 -- What a call does is proper and keeps codes apart, since the cache that it leaves is lawful.
 -- Assumes nothing.
 use Prim.Native.Nat.{ℕ}
-use mathlib.Core.Path.{_≡_, refl}
+use mathlib.Core.Path.{refl}
 use native.Mathlib.Omega.{arith}
 use Rattle.head.specs.declared.Command.{Command}
-use Rattle.model.specs.Lists.{butLast, without}
-use Rattle.model.specs.Codes.{count, codesOf}
 use Rattle.model.specs.Desk.{Desk}
 use Rattle.model.specs.Moves.{Move, stay, raise, set, renew, drop, place, replace, fit, sweep, clear, onDesk}
 use Rattle.model.specs.Perform.{Cache, verdict, handed, perform}

@@ -2,12 +2,12 @@
 -- Assumes nothing.
 use Prim.Native.Nat.{ℕ, zero, suc, _≤_}
 use mathlib.Core.List.{List, [], _∷_, head-eq-of-cons-eq}
-use mathlib.Core.Path.{_≡_, refl, sym, ap}
+use mathlib.Core.Path.{_≡_, refl, ap}
 use native.Mathlib.Omega.{arith}
 use lib.Dec.{eqb}
 use borrow.Author.Tests.{eqb-true, eq-eqb}
 use Rattle.model.specs.Lists.{only}
-use Rattle.model.specs.Codes.{count, one}
+use Rattle.model.specs.Codes.{count}
 use Rattle.model.proofs.Cases.{split}
 use Rattle.list.proofs.Marks.{hit}
 use Rattle.store.proofs.Gathered.{only-in}

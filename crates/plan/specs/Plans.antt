@@ -1,17 +1,17 @@
 -- What a plan does to a cache, which rows it hands out, and what it needs.
 -- Assumes nothing.
 use Prim.Native.Nat.{ℕ, suc, _≤_}
-use mathlib.Core.Bool.{Bool, true, false, cond}
+use mathlib.Core.Bool.{Bool, true, false, cond, _&&_}
 use mathlib.Core.List.{List, [], _∷_, reverse}
 use mathlib.Core.Path.{_≡_}
-use lib.Dec.{eqb}
+use lib.Dec.{eqb, leb}
 use lib.ListN.{length}
 use Rattle.head.specs.declared.Row.{Row}
 use Rattle.head.specs.declared.Answer.{Answer}
 use Rattle.head.specs.declared.Answer.the-variants.{No}
 use Rattle.head.specs.declared.Refusal.{Refusal}
 use Rattle.model.specs.Lists.{without, only, oldest, marked, others}
-use Rattle.model.specs.Desk.{marks}
+use Rattle.model.specs.Desk.{Desk, marks}
 use Rattle.model.specs.Moves.{Move, stay, raise, set, renew, drop, place, replace, fit, sweep, clear}
 use Rattle.model.specs.Calls.{Verdict}
 use Rattle.model.specs.Perform.{Cache}
@@ -92,15 +92,15 @@ pub record Ready (p : Plan) (c : Cache) : Type 0 where
   pub proper : Proper (c .desk) (moveOf p (c .slots .order))
   pub apart : Apart (c .desk) (moveOf p (c .slots .order))
 
--- whether a move leaves every slot in its cell
-abbrev pub cellsStay : Move → Bool
-cellsStay stay = true
-cellsStay (raise i) = true
-cellsStay (set i v) = true
-cellsStay (renew i v) = true
-cellsStay (drop i) = false
-cellsStay (place k e) = false
-cellsStay (replace i k e) = false
-cellsStay (fit k n) = false
-cellsStay (sweep q) = false
-cellsStay clear = false
+-- whether a move leaves every slot in its cell: where none comes, goes or changes its number
+abbrev pub cellsStay : Move → Desk → Bool
+cellsStay stay d = true
+cellsStay (raise i) d = true
+cellsStay (set i v) d = true
+cellsStay (renew i v) d = true
+cellsStay (drop i) d = false
+cellsStay (place k e) d = false
+cellsStay (replace i k e) d = false
+cellsStay (fit k n) d = eqb k 0 && leb (d .capacity) n
+cellsStay (sweep q) d = eqb (length (marked (others (marks q (d .entries))) (d .entries))) 0
+cellsStay clear d = false

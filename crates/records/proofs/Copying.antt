@@ -5,8 +5,8 @@ use mathlib.Core.Bool.{Bool, true, false, not, _&&_}
 use mathlib.Core.List.{List}
 use mathlib.Core.Path.{_≡_, refl, sym, _∙_}
 use borrow.Author.Tests.{leb-true}
-use lib.Dec.{T as Holds, leb}
-use lib.ListN.{length, set, length-set}
+use lib.Dec.{T as Holds}
+use lib.ListN.{length, length-set}
 use Rattle.head.specs.declared.Row.{Row}
 use Rattle.head.specs.Fields.{Fields}
 use Rattle.store.specs.State.{entryIn}

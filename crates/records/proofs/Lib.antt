@@ -1,2 +1,4 @@
 pub mod Copying
+pub mod Cutting
 pub mod Recording
+pub mod Relending

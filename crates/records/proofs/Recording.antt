@@ -1,21 +1,24 @@
--- A call made with row lists as long as the records, and its rows saved, is the call with records.
+-- A call made with room for as many rows as there are records, and its rows saved, is the call with records.
 -- Assumes nothing.
 use Prim.Native.Nat.{ℕ, suc, _≤_, _<_, min}
-use mathlib.Core.Bool.{Bool, true, false, cond, true≢false}
+use mathlib.Core.Bool.{Bool, true, false, true≢false}
 use mathlib.Core.List.{List, [], _∷_, _++_, append-assoc, append-nil}
+use mathlib.Core.Logic.{_⊎_, ⊎-elim}
 use mathlib.Core.Path.{_≡_, refl, sym, ap, _∙_}
 use native.Mathlib.Omega.{arith}
 use borrow.Author.Tests.{le-leb}
-use lib.Dec.{leb, leb·zero}
+use lib.Dec.{leb·zero}
 use lib.ListN.{length, getD, drop, set, length-append}
 use lib.Seq.{drop-cons, set-at}
 use Rattle.head.specs.declared.Row.{Row}
 use Rattle.head.specs.declared.Answer.{Answer}
 use Rattle.head.specs.declared.Answer.the-variants.{No}
+use Rattle.head.specs.declared.Refusal.{Refusal}
 use Rattle.head.specs.declared.Refusal.the-variants.{Unsound}
 use Rattle.head.specs.declared.Command.{Command}
 use Rattle.head.specs.Answers.{rowCount}
 use Rattle.head.specs.Fields.{Fields}
+use Rattle.head.specs.Forms.{formOf}
 use Rattle.model.specs.Perform.{Cache, perform}
 use Rattle.model.proofs.Cases.{split}
 use Rattle.model.proofs.Handing.{rows-counted, rows-fit}
@@ -23,9 +26,9 @@ use Rattle.store.specs.State.{blank}
 use Rattle.rows.specs.Written.{Written}
 use Rattle.rows.proofs.Callers.{written-row}
 use Rattle.plan.specs.States.{State, Means, Sound}
-use Rattle.door.specs.Served.{Serves, shortest, Calls, Tells}
+use Rattle.door.specs.Served.{isTeller, shortest}
 use Rattle.records.specs.Saving.{holds, copied, Saved}
-use Rattle.records.specs.Into.{laid, CallsInto, TellsInto}
+use Rattle.records.specs.Into.{lent, toldAnswer, toldRows, laid, Recorded, CallsWithin, TellsWithin, CallsInto, TellsInto}
 
 -- ---- what is copied of written rows
 
@@ -90,54 +93,88 @@ unfolding copied
 nothing-saved {n} {f} {before} {after} z s =
     s .records ∙ split (holds n f before) (λ t. rw (t, z) refl) (λ t. rw t refl)
 
-module _ (m : Command) (s : State) (rows rows' : Fields) (a : Answer) (before after : List Row) (r : Bool) (long : shortest rows ≡ length before) (saved : Saved (rowCount a) rows' before after r) where
-  module _ (c : Cache) (means : Means s c) (answer : a ≡ perform m (shortest rows) c .answer) (hands : Written (perform m (shortest rows) c .rows) rows rows') where
-    many : rowCount a ≡ length (perform m (shortest rows) c .rows)
-    many = ap rowCount answer ∙ rows-counted m (shortest rows) c (means .lawful .capacity .0)
+-- what `tell` hands out is counted, and is no more than is lent
+told-counted : (m : Command) (n : ℕ) (c : Cache) → 1 ≤ c .desk .capacity → rowCount (toldAnswer m n c) ≡ length (toldRows m n c)
+told-counted m n c h = split (isTeller (formOf m)) (λ k. rw k (rows-counted m n c h)) (λ k. rw k refl)
+
+told-fit : (m : Command) (n : ℕ) (c : Cache) → length (toldRows m n c) ≤ n
+told-fit m n c = split (isTeller (formOf m)) (λ k. rw k (rows-fit m n c)) (λ k. rw k (omega arith))
+
+module _ (m : Command) (s : State) (rows rows' : Fields) (a : Answer) (before after : List Row) (r : Bool) (saved : Saved (rowCount a) rows' before after r) where
+  abbrev k : ℕ
+  k = lent (length before) rows
+
+  -- rows that the answer counts, that are lent and written
+  module _ (handed : List Row) (many : rowCount a ≡ length handed) (few : length handed ≤ k) (written : Written handed rows rows') where
+    fit : length handed ≤ length before
+    fit = omega (arith, few, min-left (length before) (shortest rows))
 
     all : holds (rowCount a) rows' before ≡ true
     all =
-        let l = rows-fit m (shortest rows) c in
-        all-hold hands before (omega (arith, many, long, l)) (omega (arith, many, l))
+        let z = min-right (length before) (shortest rows) in
+        all-hold written before (omega (arith, many, fit)) (omega (arith, many, few, z))
 
     is-saved : r ≡ true
     is-saved = saved .answer ∙ all
 
-    records-are : after ≡ laid (perform m (length before) c .rows) before
+    records-are : after ≡ laid handed before
     records-are =
-        let l = rows-fit m (shortest rows) c in
         let given : after ≡ copied (rowCount a) rows' before = saved .records ∙ rw all refl in
-        given
-        ∙ ap (λ (n : ℕ). copied n rows' before) many
-        ∙ copied-all before (perform m (shortest rows) c .rows) hands (omega (arith, long, l))
-        ∙ ap (λ (n : ℕ). laid (perform m n c .rows) before) long
+        given ∙ ap (λ (n : ℕ). copied n rows' before) many ∙ copied-all before handed written fit
 
-  refused-saved : a ≡ No Unsound → after ≡ before
-  refused-saved e = nothing-saved (ap rowCount e) saved
-
-  pub calls-into : {t : State} → Calls m s t rows rows' a → CallsInto m s t before after a
-  calls-into {t} p = record {
-    serves = rw long at (p .serves);
-    hands = λ c h. records-are c h (p .serves .sound c h .answer) (p .hands c h);
-    unsound = λ n. refused-saved (p .serves .unsound n .0);
-  }
-
-  pub tells-into : Tells m s rows rows' a → TellsInto m s before after a
-  tells-into p = record {
-    answer = λ c h. p .answer c h ∙ ap (λ (n : ℕ). perform m n c .answer) long;
-    hands = λ c h. records-are c h (p .answer c h) (p .hands c h);
-    unsound = λ n. (p .unsound n .0, refused-saved (p .unsound n .0));
-  }
+  refused-saved : (q : Refusal) → a ≡ No q → after ≡ before
+  refused-saved q e = nothing-saved (ap rowCount e) saved
 
   -- nothing is handed out where no cache is described, so that is saved too
   none-saved : a ≡ No Unsound → r ≡ true
   none-saved e = saved .answer ∙ rw (ap rowCount e) (rw (leb·zero (length before), leb·zero (length (rows' .codes)), leb·zero (length (rows' .stamps)), leb·zero (length (rows' .values)), leb·zero (length (rows' .weights))) refl)
 
-  either-way : ((c : Cache) → Means s c → r ≡ true) → ((Sound s → ⊥) → r ≡ true) → r ≡ true
-  either-way f g = settle r f g
+  module _ {t : State} (p : CallsWithin m (length before) s t rows rows' a) where
+    call-counts : (c : Cache) → Means s c → rowCount a ≡ length (perform m k c .rows)
+    call-counts c h = ap rowCount (p .serves .sound c h .answer) ∙ rows-counted m k c (h .lawful .capacity .0)
 
-  pub calls-saved : {t : State} → Calls m s t rows rows' a → r ≡ true
-  calls-saved p = either-way (λ c h. is-saved c h (p .serves .sound c h .answer) (p .hands c h)) (λ n. none-saved (p .serves .unsound n .0))
+    pub calls-into : CallsInto m s t rows rows' before after a
+    calls-into = record {
+      calls = p;
+      records = record {
+        hands = λ c h. records-are (perform m k c .rows) (call-counts c h) (rows-fit m k c) (p .hands c h);
+        refused = refused-saved;
+      };
+    }
 
-  pub tells-saved : Tells m s rows rows' a → r ≡ true
-  tells-saved p = either-way (λ c h. is-saved c h (p .answer c h) (p .hands c h)) (λ n. none-saved (p .unsound n .0))
+    pub calls-saved : r ≡ true
+    calls-saved = settle r (λ c h. is-saved (perform m k c .rows) (call-counts c h) (rows-fit m k c) (p .hands c h)) (λ n. none-saved (p .serves .unsound n .0))
+
+  module _ (p : TellsWithin m (length before) s rows rows' a) where
+    tell-counts : (c : Cache) → Means s c → rowCount a ≡ length (toldRows m k c)
+    tell-counts c h = ap rowCount (p .answer c h) ∙ told-counted m k c (h .lawful .capacity .0)
+
+    pub tells-into : TellsInto m s rows rows' before after a
+    tells-into = record {
+      tells = p;
+      records = record {
+        hands = λ c h. records-are (toldRows m k c) (tell-counts c h) (told-fit m k c) (p .hands c h);
+        refused = refused-saved;
+      };
+    }
+
+    pub tells-saved : r ≡ true
+    tells-saved = settle r (λ c h. is-saved (toldRows m k c) (tell-counts c h) (told-fit m k c) (p .hands c h)) (λ n. none-saved (p .unsound n .0))
+
+-- ---- one outcome
+
+module _ {handed : Cache → List Row} {s : State} {before after after' : List Row} {a b : Answer} (known : Sound s ⊎ (Sound s → ⊥)) where
+  one-recorded : ((Sound s → ⊥) → (a ≡ No Unsound) × (b ≡ No Unsound)) → Recorded handed s before after a → Recorded handed s before after' b → after ≡ after'
+  one-recorded refuse x y =
+      ⊎-elim
+      (λ w. x .hands (w .cache) (w .described) ∙ sym (y .hands (w .cache) (w .described)))
+      (λ n. x .refused Unsound (refuse n .0) ∙ sym (y .refused Unsound (refuse n .1)))
+      known
+
+module _ {m : Command} {s : State} {rows : Fields} {before after after' : List Row} {a b : Answer} (known : Sound s ⊎ (Sound s → ⊥)) where
+  -- two outcomes of one call have the same records
+  pub one-into : {t u : State} {out out' : Fields} → CallsInto m s t rows out before after a → CallsInto m s u rows out' before after' b → after ≡ after'
+  one-into x y = one-recorded known (λ n. (x .calls .serves .unsound n .0, y .calls .serves .unsound n .0)) (x .records) (y .records)
+
+  pub one-told-into : {out out' : Fields} → TellsInto m s rows out before after a → TellsInto m s rows out' before after' b → after ≡ after'
+  one-told-into x y = one-recorded known (λ n. (x .tells .unsound n .0, y .tells .unsound n .0)) (x .records) (y .records)

@@ -6,3 +6,4 @@ pub mod Sweeping
 pub mod Ageing
 pub mod Listing
 pub mod Callers
+pub mod Nothing

@@ -19,7 +19,7 @@ use Rattle.head.specs.Fields.{Fields}
 use Rattle.store.specs.State.{Describes}
 use Rattle.store.proofs.Described.{order-length, order-live}
 use Rattle.rows.specs.Views.{skipped}
-use Rattle.rows.specs.Answers.{removed, Aged, WroteOldest, Swept, WroteRemoved, Listable, WroteAll, ListableBack, WroteBack}
+use Rattle.rows.specs.Answers.{removed, Aged, WroteOldest, Sweepable, WroteRemoved, Listable, WroteAll, ListableBack, WroteBack}
 use Rattle.rows.proofs.Trails.{without-none, only-end}
 use Rattle.rows.proofs.Dropping.{oldest-all}
 use Rattle.rows.proofs.Sweeping.{removed-gone}
@@ -78,7 +78,7 @@ removed-all (e ∷ es) = removed-gone noStamp e es (keeps-none e) ∙ ap (λ (l 
 pub no-stamp : (q r : Rule) → q ≡ ruleOf stampRule 0 0 → r ≡ record { number = q .number; not = not (q .not); low = q .low; high = q .high } → r ≡ noStamp
 no-stamp q r e g = g ∙ ap (λ (x : Rule). record { number = x .number; not = not (x .not); low = x .low; high = x .high }) e
 
-pub all-swept : {h : Head} {f : Fields} {nx : List ℕ} {rows : Fields} (q : Rule) → q ≡ noStamp → Listable h f nx rows → Swept h f nx q rows
+pub all-swept : {h : Head} {f : Fields} {nx : List ℕ} {rows : Fields} (q : Rule) → q ≡ noStamp → Listable h f nx rows → Sweepable h f nx q rows
 all-swept q e r = record { cache = r .cache; seen = r .seen; room = rw (e, removed-all (r .cache .desk .entries)) (r .room) }
 
 pub all-wrote : {h : Head} {f : Fields} {nx : List ℕ} {rows rows' : Fields} (q : Rule) → q ≡ noStamp → WroteRemoved h f nx q rows rows' → WroteAll h f nx rows rows'

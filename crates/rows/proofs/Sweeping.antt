@@ -3,26 +3,27 @@
 use Prim.Native.Nat.{ℕ, zero, suc, _+_, _-_, _≤_, _<_}
 use mathlib.Core.Bool.{Bool, true, false, not}
 use mathlib.Core.List.{List, [], _∷_}
-use mathlib.Core.Path.{_≡_, refl, sym, ap, _∙_}
+use mathlib.Core.Path.{_≡_, refl, sym, ap, _∙_, subst}
 use native.Mathlib.Omega.{arith}
 use lib.ListN.{length, getD}
 use Rattle.head.specs.declared.Head.{Head}
 use Rattle.head.specs.declared.Row.{Row}
 use Rattle.head.specs.declared.Rule.{Rule}
 use Rattle.head.specs.Bounds.{mostSlots}
+use Rattle.head.specs.Walks.{walk}
 use Rattle.model.specs.Codes.{one}
 use Rattle.model.specs.Desk.{keeps}
 use Rattle.model.specs.Perform.{Cache}
 use Rattle.model.proofs.Cases.{split}
-use Rattle.table.specs.Links.{walk}
 use Rattle.head.specs.Fields.{Fields, Reach}
+use Rattle.list.proofs.Unique.{order-is}
 use Rattle.store.specs.State.{gather, entryIn}
 use Rattle.store.specs.Acts.{Writable}
 use Rattle.store.proofs.Writing.{writable}
 use Rattle.store.proofs.Described.{order-live}
 use Rattle.rows.specs.Views.{Forward}
-use Rattle.rows.specs.Answers.{removed, Read, Removes, Offered, Handed, Swept, WroteRemoved}
-use Rattle.rows.proofs.Chains.{Within, front-walk, order-within}
+use Rattle.rows.specs.Answers.{removed, Read, Removes, Offered, Handed, Sweepable, WroteRemoved}
+use Rattle.rows.proofs.Chains.{Within, order-within}
 use Rattle.rows.proofs.Laying.{Laying, laying-start, laying-end, laying-room, laying-step}
 
 pub removed-kept : (q : Rule) (e : Row) (es : List Row) → keeps q e ≡ true → removed q (e ∷ es) ≡ removed q es
@@ -79,7 +80,7 @@ module _ {f : Fields} {nx : List ℕ} where
 
 module _ {h : Head} {f : Fields} {nx : List ℕ} {c : Cache} (w : Forward h f nx c) where
   pub coming-entries : coming f nx (h .front .0) (h .live) ≡ c .desk .entries
-  coming-entries = ap (gather f) (front-walk (w .described .links)) ∙ w .described .entries
+  coming-entries = ap (gather f) (sym (order-is (w .described .links))) ∙ w .described .entries
 
   forward-ahead : Ahead f nx (h .front .0) (h .live)
   forward-ahead =
@@ -88,7 +89,7 @@ module _ {h : Head} {f : Fields} {nx : List ℕ} {c : Cache} (w : Forward h f nx
         bound = h .slots;
         reach = d .reach;
         nexts = d .links .long .nexts;
-        within = rw (front-walk (d .links)) (order-within (d .links));
+        within = subst (Within (h .slots)) (order-is (d .links)) (order-within (d .links));
       }
 
   live-few : h .live ≤ mostSlots
@@ -148,7 +149,7 @@ pub record Sweeping (f : Fields) (nx : List ℕ) (q : Rule) (before now : Fields
   pub few : n + left ≤ mostSlots
   pub laying : Laying (removed q (coming f nx s₀ left₀)) before now n (removed q (coming f nx s left))
 
-pub sweep-start : {h : Head} {f : Fields} {nx : List ℕ} {q : Rule} {rows : Fields} → Swept h f nx q rows
+pub sweep-start : {h : Head} {f : Fields} {nx : List ℕ} {q : Rule} {rows : Fields} → Sweepable h f nx q rows
     → Sweeping f nx q rows rows (h .front .0) (h .live) (h .front .0) (h .live) 0
 sweep-start {q = q} {rows = rows} r = record {
   ahead = forward-ahead (r .seen);

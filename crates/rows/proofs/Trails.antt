@@ -11,6 +11,8 @@ use lib.Seq.{take-at}
 use borrow.Author.Tests.{eqb-true, eqb-false, eq-eqb}
 use Rattle.head.specs.declared.Head.{Head}
 use Rattle.head.specs.Bounds.{noneMark}
+use Rattle.head.specs.Walks.{walk}
+use Rattle.head.proofs.Walking.{walk-length}
 use Rattle.model.specs.Codes.{one, count}
 use Rattle.model.specs.Lists.{without, only, oldest}
 use Rattle.model.specs.Perform.{Cache}
@@ -19,8 +21,7 @@ use Rattle.model.proofs.Counting.{times, of-reverse}
 use Rattle.model.proofs.Handing.{oldest-length}
 use Rattle.model.proofs.Mapping.{map-length, map-without, map-oldest}
 use Rattle.table.specs.Orders.{omit}
-use Rattle.table.specs.Links.{walk}
-use Rattle.table.proofs.Members.{omit-without, walk-length}
+use Rattle.table.proofs.Members.{omit-without}
 use Rattle.head.specs.Fields.{Fields}
 use Rattle.store.specs.State.{gather, Describes}
 use Rattle.store.proofs.Gathered.{gathering, only-in}

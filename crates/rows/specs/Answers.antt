@@ -66,7 +66,7 @@ pub record Handed (n : ℕ) (q : Rule) (e : Row) (r : ℕ) (rows rows' : Fields)
   pub gone : keeps q e ≡ false → (r ≡ n + 1) × Wrote n e rows rows'
 
 -- some cache is seen, and there is room for what the rule removes
-pub record Swept (h : Head) (f : Fields) (nx : List ℕ) (q : Rule) (rows : Fields) : Type 0 where
+pub record Sweepable (h : Head) (f : Fields) (nx : List ℕ) (q : Rule) (rows : Fields) : Type 0 where
   pub cache : Cache
   pub seen : Forward h f nx cache
   pub room : Reach (length (removed q (cache .desk .entries))) rows

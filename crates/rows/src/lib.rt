@@ -10,9 +10,8 @@ ghost use lib.ListN.{length};
 ghost use Rattle.model.specs.Desk.{keeps as keeping};
 ghost use Rattle.model.specs.Codes.{one};
 ghost use Rattle.store.specs.State.{fields};
-ghost use Rattle.store.specs.Acts.{Writable};
 ghost use Rattle.rows.specs.Views.{pastAt, costAt, Countable};
-ghost use Rattle.rows.specs.Answers.{Budgeted, Leaves, Read, Removes, Aged, WroteOldest, Offered, Handed, Swept, WroteRemoved, Listable, WroteAll, ListableBack, WroteBack};
+ghost use Rattle.rows.specs.Answers.{Budgeted, Leaves, Read, Removes, Aged, WroteOldest, Offered, Handed, Sweepable, WroteRemoved, Listable, WroteAll, ListableBack, WroteBack};
 
 // The slot itself, or the one ahead of it where it is the one to skip.
 fn past(prev: &[u32], slot: Slot, skip: Slot) -> Slot
@@ -114,7 +113,7 @@ pub fn write_oldest(
     while j < k {
         let here = past(prev, oldest, skip);
         let row = store::row_at(codes, stamps, values, weights, here);
-        store::write(row_codes, row_stamps, row_values, row_weights, Slot(j), row);
+        store::write(row_codes, row_stamps, row_values, row_weights, j, row);
         oldest = list::ahead(prev, here);
         j += 1;
     }
@@ -136,7 +135,7 @@ fn hand_out(
     if rules::keeps(rule, row) {
         return n;
     }
-    store::write(row_codes, row_stamps, row_values, row_weights, Slot(n), row);
+    store::write(row_codes, row_stamps, row_values, row_weights, n, row);
     n + 1
 }
 
@@ -154,7 +153,7 @@ pub fn write_removed(
     row_values: &mut [u64],
     row_weights: &mut [u64],
 )
-    requires { ⌜ Swept head (fields (now codes) (now stamps) (now values) (now weights)) (now next) rule (fields (now «row_codes») (now «row_stamps») (now «row_values») (now «row_weights»)) ⌝ }
+    requires { ⌜ Sweepable head (fields (now codes) (now stamps) (now values) (now weights)) (now next) rule (fields (now «row_codes») (now «row_stamps») (now «row_values») (now «row_weights»)) ⌝ }
     ensures { λ _. ⌜ WroteRemoved head (fields (now (codes .entry)) (now (stamps .entry)) (now (values .entry)) (now (weights .entry))) (now (next .entry)) rule (fields (now («row_codes» .entry)) (now («row_stamps» .entry)) (now («row_values» .entry)) (now («row_weights» .entry))) (fields (now («row_codes» .exit)) (now («row_stamps» .exit)) (now («row_values» .exit)) (now («row_weights» .exit))) ⌝ }
 {
     let mut slot = head.front;

@@ -18,14 +18,22 @@ use Rattle.model.proofs.Cases.{split}
 use Rattle.model.proofs.Counting.{times, sized, weighing, of-toFront}
 use Rattle.model.proofs.Mapping.{map-length, map-toFront}
 use Rattle.model.proofs.Lawful.{move-lawful}
+use Rattle.model.proofs.Members.{counted-member, member-counted}
 use Rattle.list.specs.Order.{below}
 use Rattle.list.specs.Promises.{Moved}
+use Rattle.table.specs.Orders.{Same}
 use Rattle.table.proofs.Kept.{order-sound}
 use Rattle.head.specs.Fields.{Fields, Reach}
 use Rattle.store.specs.State.{entryIn, Describes}
 use Rattle.store.specs.Caches.{after, shed, added, capped}
 use Rattle.store.proofs.Gathered.{gathering, gather-revalued, only-in}
-use Rattle.store.proofs.Members.{counted-same}
+
+-- counted alike, so the same members
+counted-same : (a b : List ℕ) → ((u : ℕ) → count u a ≡ count u b) → Same a b
+counted-same a b h = record {
+  to = λ u m. counted-member u b (omega (arith, h u, member-counted u a m));
+  from = λ u m. counted-member u a (omega (arith, h u, member-counted u b m));
+}
 
 -- the moves are made of these acts
 place-parts : (k : ℕ) (e : Row) (c : Cache) → after (place k e) c ≡ added e (shed k c)

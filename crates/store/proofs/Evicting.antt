@@ -91,12 +91,14 @@ pub record Evicting (h₀ : Head) (f₀ : Fields) (nx₀ pv₀ st₀ cells₀ : 
   pub most : j ≤ k
   pub tails : Tails (h₀ .slots) f₀ nx₀ pv₀ st₀ cells₀ f nx pv st cells
   pub onward : (c : Cache) → k ≤ length (c .desk .entries) → Describes h₀ f₀ nx₀ pv₀ st₀ cells₀ c → Onward h f nx pv st cells (k - j) (shed k c)
+  pub table : j ≡ 0 → cells ≡ cells₀
 
 pub evict-start : (h : Head) (f : Fields) (nx pv st cells : List ℕ) (k : ℕ) → Evicting h f nx pv st cells k h f nx pv st cells 0
 evict-start h f nx pv st cells k = record {
   most = omega arith;
   tails = tails-same f nx pv st cells;
   onward = λ c n d. record { cache = c; described = d; some = omega arith; same = let z : k - 0 ≡ k = omega arith in rw z };
+  table = λ z. refl;
 }
 
 module _ {h₀ : Head} {f₀ : Fields} {nx₀ pv₀ st₀ cells₀ : List ℕ} {k : ℕ} {h : Head} {f : Fields} {nx pv st cells : List ℕ} {j : ℕ}
@@ -130,6 +132,7 @@ module _ {h₀ : Head} {f₀ : Fields} {nx₀ pv₀ st₀ cells₀ : List ℕ} {
               let z : k - j ≡ suc (k - (j + 1)) = omega arith in
               o .same ∙ ap (λ (i : ℕ). shed i m) z ∙ shed-more (k - (j + 1)) m (order-length (o .described)) some;
         };
+    table = λ z. absurd (omega arith);
   }
     where
       slots-same : h .slots ≡ h₀ .slots
@@ -145,4 +148,5 @@ module _ {h₀ : Head} {f₀ : Fields} {nx₀ pv₀ st₀ cells₀ : List ℕ} {
         let z : k - j ≡ 0 = omega arith in
         let s : shed k c ≡ o .cache = o .same ∙ ap (λ (i : ℕ). shed i (o .cache)) z ∙ shed-none (o .cache) in
         rw s (o .described);
+    table = λ z. e .table (omega arith);
   }

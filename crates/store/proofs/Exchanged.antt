@@ -38,7 +38,7 @@ use Rattle.head.specs.Fields.{Fields, Reach}
 use Rattle.store.specs.State.{entryIn, gather, blank, Describes, Changed}
 use Rattle.store.specs.Caches.{after, added}
 use Rattle.store.proofs.Gathered.{gathering, gather-agree}
-use Rattle.store.proofs.Members.{counted-member, member-counted}
+use Rattle.model.proofs.Members.{counted-member, member-counted}
 use Rattle.store.proofs.Described.{slot-once, order-length, below-one, below-in}
 
 same? : (u s : ℕ) → (u ≡ s) ⊎ (u ≡ s → ⊥)
@@ -100,7 +100,7 @@ module _ {h : Head} {f : Fields} {nx pv st cells : List ℕ} {c : Cache} (d : De
   -- the entry at place i leaves
   pub drop-described : (r : Head) (g : Fields) (nx' pv' st' cells' : List ℕ) (i s w : ℕ) → only i (c .slots .order) ≡ s ∷ []
       → list.Removed h r nx pv st nx' pv' st' s
-      → table.Removed (homeOf (h .slots)) (2 * h .slots) (f .codes) s cells cells'
+      → table.TakenOut (homeOf (h .slots)) (2 * h .slots) (f .codes) s cells cells'
       → Changed s blank f g
       → Reach (h .slots) g
       → w + getD (f .weights) s 0 ≡ h .weight

@@ -1,5 +1,5 @@
+pub mod Lengths
 pub mod Gathered
-pub mod Members
 pub mod Described
 pub mod Exchanged
 pub mod Shedding

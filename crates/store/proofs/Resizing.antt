@@ -10,15 +10,17 @@ use Rattle.head.specs.declared.Head.{Head}
 use Rattle.head.specs.declared.Row.{Row}
 use Rattle.head.specs.Bounds.{mostCapacity}
 use Rattle.head.specs.Fields.{Fields, Reach}
+use Rattle.head.specs.Walks.{walk}
 use Rattle.crc.specs.Home.{homeOf}
 use Rattle.model.specs.Desk.{entry}
 use Rattle.model.specs.Slots.{Slots, upFrom, compacted}
 use Rattle.model.specs.Perform.{Cache}
 use Rattle.model.specs.Claims.{spent, Lawful}
 use Rattle.list.specs.Links.{Linked}
+use Rattle.list.proofs.Unique.{order-is}
 use Rattle.compact.specs.Compact.{AllBlank, Resizable, Resized}
 use Rattle.compact.proofs.Laws.{moved-rows, moved-blank}
-use Rattle.table.specs.Links.{walk, Keyed}
+use Rattle.table.specs.Links.{Keyed}
 use Rattle.table.specs.Acts.{Rebuilt}
 use Rattle.store.specs.State.{entryIn, gather, Describes}
 use Rattle.store.specs.Caches.{capped}
@@ -26,7 +28,7 @@ use Rattle.store.specs.Acts.{Holds, Capped}
 use Rattle.store.proofs.Described.{order-live}
 use Rattle.store.proofs.Emptied.{grow-described}
 use Rattle.store.proofs.Evicting.{tails-same}
-use Rattle.store.proofs.Walked.{order-walked, walk-keyed}
+use Rattle.store.proofs.Walked.{walk-keyed}
 
 -- what the slots of an order hold, as a map
 gather-map : (f : Fields) (o : List ℕ) → gather f o ≡ map (entryIn f) o
@@ -129,8 +131,9 @@ module _ {h : Head} {f : Fields} {nx pv st cells : List ℕ} {n : ℕ} (o : Hold
             blanks = λ u k z.
                 let k₀ : u < h .slots = omega (arith, w .slots) in
                 rw (blanks .codes u k₀ z, blanks .stamps u k₀ z, blanks .values u k₀ z, blanks .weights u k₀ z);
-            table = rw (w .slots, order-walked l) (b .sound);
+            table = rw (w .slots, order-is l) (b .sound);
           });
+      table = λ ge. absurd (omega arith);
     }
 
   -- an equal or larger one: nothing moved
@@ -142,4 +145,5 @@ module _ {h : Head} {f : Fields} {nx pv st cells : List ℕ} {n : ℕ} (o : Hold
       (record {
         tails = tails-same f nx pv st cells;
         described = λ c fits d. grow-described d n (le-ltb n (c .desk .capacity) (omega (arith, d .capacity))) (o .allowed .0) (o .allowed .1) fits;
+        table = λ z. refl;
       })

@@ -13,12 +13,12 @@ use Rattle.model.specs.Desk.{absent, present, find}
 use Rattle.model.specs.Perform.{Cache}
 use Rattle.table.specs.declared.Search.the-variants.{Found, Empty}
 use Rattle.table.specs.Cells.{slotOf, sought}
-use Rattle.table.specs.Sound.{Open}
+use Rattle.table.specs.Sound.{Gapped}
 use Rattle.table.proofs.Answers.{found-answer, empty-answer}
 use Rattle.table.proofs.Found.{sound-open}
 use Rattle.store.specs.State.{entryIn, Describes}
-use Rattle.store.proofs.Gathered.{Standing, find-slot, find-none}
-use Rattle.store.proofs.Members.{counted-member, member-counted}
+use Rattle.store.proofs.Gathered.{find-slot, find-none}
+use Rattle.model.proofs.Members.{counted-member, member-counted}
 
 -- the entry of a code, its place and its slot
 pub record FoundIn (f : Fields) (c : Cache) (code s : ℕ) : Type 0 where
@@ -31,7 +31,7 @@ module _ {h : Head} {f : Fields} {nx pv st cells : List ℕ} {c : Cache} (d : De
   homes = home-lt (omega (arith, d .lawful .room .0, d .room))
 
   -- a search may be made
-  pub search-open : Open (2 * h .slots) cells (f .codes)
+  pub search-open : Gapped (2 * h .slots) cells (f .codes)
   search-open = sound-open (d .table)
 
   -- it ends at a slot: that slot holds the entry of the code

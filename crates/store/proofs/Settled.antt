@@ -47,7 +47,7 @@ gathered-one f g (s ∷ ss) e u k =
     (same? s u)
 
 -- two states of one cache have one head and, below N, one set of fields, links and stack
-pub record Alike (h h′ : Head) (f f′ : Fields) (nx pv st nx′ pv′ st′ : List ℕ) : Type 0 where
+pub record SameBelow (h h′ : Head) (f f′ : Fields) (nx pv st nx′ pv′ st′ : List ℕ) : Type 0 where
   pub head : h′ ≡ h
   pub entries : (u : ℕ) → u < h .slots → entryIn f u ≡ entryIn f′ u
   pub nexts : (u : ℕ) → u < h .slots → getD nx u 0 ≡ getD nx′ u 0
@@ -56,7 +56,7 @@ pub record Alike (h h′ : Head) (f f′ : Fields) (nx pv st nx′ pv′ st′ :
 
 pub one-state : {h h′ : Head} {f f′ : Fields} {nx pv st cells nx′ pv′ st′ cells′ : List ℕ} {c : Cache} → Describes h f nx pv st cells c
     → Describes h′ f′ nx′ pv′ st′ cells′ c
-    → Alike h h′ f f′ nx pv st nx′ pv′ st′
+    → SameBelow h h′ f f′ nx pv st nx′ pv′ st′
 one-state {h} {h′} {f} {f′} {c = c} d e =
     let slots : h′ .slots ≡ h .slots = e .room ∙ sym (d .room) in
     let rest : Rest h h′ = record {

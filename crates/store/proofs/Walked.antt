@@ -1,37 +1,25 @@
--- The order that sound links walk: the same for the list and for the table, no slot twice, each slot one of the N; and codes that differ.
+-- The order that sound links walk: no slot twice, each slot one of the N; and codes that differ.
 -- Assumes nothing.
-use Prim.Native.Nat.{ℕ, zero, suc, _*_, _≤_, _<_}
+use Prim.Native.Nat.{ℕ, _*_, _≤_, _<_}
 use mathlib.Core.List.{List, [], _∷_, List·Memᴰ}
 use mathlib.Core.Logic.{⊎-elim}
-use mathlib.Core.Path.{_≡_, refl, sym, ap, _∙_, subst}
+use mathlib.Core.Path.{_≡_, sym, ap, _∙_, subst}
 use native.Mathlib.Omega.{arith}
 use lib.Dec.{eqb}
 use lib.ListN.{length, getD}
 use borrow.Author.Tests.{eq-eqb}
 use Rattle.head.specs.declared.Head.{Head}
 use Rattle.head.specs.Fields.{Fields, Reach}
+use Rattle.head.specs.Walks.{walk}
 use Rattle.model.specs.Codes.{one, count, codesOf, Distinct}
+use Rattle.model.proofs.Members.{member-counted}
 use Rattle.list.specs.Links.{Linked}
-use Rattle.list.proofs.Marks.{hit, miss, same?}
-use Rattle.list.proofs.Unique as list
+use Rattle.list.proofs.Marks.{miss, same?}
+use Rattle.list.proofs.Unique.{order-is}
 use Rattle.list.proofs.Within.{in-slots, once}
-use Rattle.table.specs.Sound as table
-use Rattle.table.specs.Links.{walk, Listed, Keyed}
+use Rattle.table.specs.Links.{Listed, Keyed}
 use Rattle.store.specs.State.{gather}
-use Rattle.store.proofs.Members.{member-counted}
 use Rattle.store.proofs.Exchanged.{code-counted}
-
--- the list's walk and the table's are one
-walks : (k x : ℕ) (nx : List ℕ) → list.walk k x nx ≡ walk nx x k
-unfolding walk
-walks zero x nx = refl
-walks (suc k) x nx = ap (λ (l : List ℕ). x ∷ l) (walks k (getD nx x 0) nx)
-
--- counted once at most, so distinct
-distinct : (o : List ℕ) → ((u : ℕ) → count u o ≤ 1) → table.Distinct o
-unfolding table.Distinct
-distinct [] h = tt
-distinct (x ∷ o) h = ((λ m. omega (arith, h x, hit x x refl, member-counted x o m)), distinct o (λ u. omega (arith, h u)))
 
 -- two slots that have one code: the code stands twice
 two-codes : (f : Fields) (o : List ℕ) (s t : ℕ) → (s ≡ t → ⊥) → 1 ≤ count s o → 1 ≤ count t o → getD (f .codes) s 0 ≡ getD (f .codes) t 0
@@ -64,10 +52,6 @@ codes-differ f o u s t m k e =
     (same? s t)
 
 module _ {h : Head} {nx pv st o free : List ℕ} (l : Linked h nx pv st o free []) where
-  -- the order is what the table's walk says
-  pub order-walked : o ≡ walk nx (h .front .0) (h .live)
-  order-walked = list.order-is l ∙ walks (h .live) (h .front .0) nx
-
   pub slot-below : (s : ℕ) → List·Memᴰ s o → s < h .slots
   slot-below s m = in-slots l s (omega (arith, member-counted s o m))
 
@@ -75,17 +59,17 @@ module _ {h : Head} {nx pv st o free : List ℕ} (l : Linked h nx pv st o free [
   pub walk-listed : (f : Fields) (cells : List ℕ) → Reach (h .slots) f → 1 ≤ h .slots → 2 * h .slots ≤ length cells
       → Listed (h .slots) cells (f .codes) nx (walk nx (h .front .0) (h .live))
   walk-listed f cells r some wide =
-      subst (Listed (h .slots) cells (f .codes) nx) order-walked (record {
+      subst (Listed (h .slots) cells (f .codes) nx) (order-is l) (record {
         wide = wide;
         room = omega (arith, l .size, l .fit);
         coded = λ s m. (omega (arith, slot-below s m, r .codes), λ q. omega (arith, slot-below s m, l .long .small));
         linked = λ s m. omega (arith, slot-below s m, l .long .nexts);
-        once = distinct o (λ u. omega (arith, once l u));
+        once = λ u. omega (arith, once l u);
       })
 
   pub walk-keyed : (f : Fields) (cells : List ℕ) → Reach (h .slots) f → 1 ≤ h .slots → 2 * h .slots ≤ length cells → Distinct (codesOf (gather f o))
       → Keyed (h .slots) cells (f .codes) nx (walk nx (h .front .0) (h .live))
   walk-keyed f cells r some wide u = record {
     listed = walk-listed f cells r some wide;
-    differ = subst (λ (w : List ℕ). (s t : ℕ) → List·Memᴰ s w → List·Memᴰ t w → getD (f .codes) s 0 ≡ getD (f .codes) t 0 → s ≡ t) order-walked (codes-differ f o u);
+    differ = subst (λ (w : List ℕ). (s t : ℕ) → List·Memᴰ s w → List·Memᴰ t w → getD (f .codes) s 0 ≡ getD (f .codes) t 0 → s ≡ t) (order-is l) (codes-differ f o u);
   }

@@ -27,7 +27,7 @@ use Rattle.store.specs.State.{blank, Describes, Changed}
 use Rattle.store.specs.Caches.{after}
 use Rattle.store.specs.Acts.{Writable, Wrote, Tails, Occupied, Dropped, Admits, Added}
 use Rattle.store.proofs.Gathered.{only-in}
-use Rattle.store.proofs.Members.{counted-member}
+use Rattle.model.proofs.Members.{counted-member}
 use Rattle.store.proofs.Described.{slot-in, order-live, set-described}
 use Rattle.store.proofs.Exchanged.{entry-at, drop-described, written-sound, pushed-slot, add-described}
 
@@ -127,7 +127,7 @@ module _ {h : Head} {f : Fields} {nx pv st cells : List ℕ} {s : ℕ} (o : Occu
 
   -- what `remove` leaves
   pub dropped-ok : (r : Head) (g : Fields) (nx' pv' st' cells' : List ℕ) (w : ℕ) → w ≡ getD (f .weights) s 0
-      → table.Removed (homeOf (h .slots)) (2 * h .slots) (f .codes) s cells cells'
+      → table.TakenOut (homeOf (h .slots)) (2 * h .slots) (f .codes) s cells cells'
       → Wrote s blank f g
       → list.Removed h r nx pv st nx' pv' st' s
       → Dropped h f nx pv st cells (reweighed (r .weight - w) r) g nx' pv' st' cells' s
@@ -158,7 +158,7 @@ module _ {h : Head} {f : Fields} {nx pv st cells : List ℕ} {s : ℕ} (o : Occu
 
 module _ {h : Head} {f : Fields} {nx pv st cells : List ℕ} {e : Row} (a : Admits h f nx pv st cells e) where
   -- what list and table ask for a new entry
-  pub admits-open : list.Open h nx pv st
+  pub admits-open : list.Spare h nx pv st
   admits-open = record {
     order = a .cache .slots .order;
     free = a .cache .slots .free;

@@ -21,14 +21,14 @@ use Rattle.model.specs.Codes.{count, codesOf}
 use Rattle.model.proofs.Lawful.{Takes}
 use Rattle.store.specs.Caches.{after, added, shed, capped}
 
--- all four lists have a slot
+-- all four lists have a place s
 pub record Writable (s : ℕ) (f : Fields) : Type 0 where
   pub codes : s < length (f .codes)
   pub stamps : s < length (f .stamps)
   pub values : s < length (f .values)
   pub weights : s < length (f .weights)
 
--- a slot's four numbers are those of an entry now
+-- the four numbers at place s are those of an entry now
 pub record Wrote (s : ℕ) (e : Row) (f g : Fields) : Type 0 where
   pub codes : g .codes ≡ lib.ListN.set (f .codes) s (e .code .0)
   pub stamps : g .stamps ≡ lib.ListN.set (f .stamps) s (e .stamp)
@@ -78,10 +78,11 @@ pub record Rich (h : Head) (f : Fields) (nx pv st cells : List ℕ) (k : ℕ) : 
   pub described : Describes h f nx pv st cells cache
   pub some : k ≤ length (cache .desk .entries)
 
--- k entries have left from the back
+-- k entries have left from the back; where none leave, the cells are as they were
 pub record Shed (h : Head) (f : Fields) (nx pv st cells : List ℕ) (r : Head) (g : Fields) (nx' pv' st' cells' : List ℕ) (k : ℕ) : Type 0 where
   pub tails : Tails (h .slots) f nx pv st cells g nx' pv' st' cells'
   pub described : (c : Cache) → k ≤ length (c .desk .entries) → Describes h f nx pv st cells c → Describes r g nx' pv' st' cells' (shed k c)
+  pub table : k ≡ 0 → cells' ≡ cells
 
 -- every list reaches what the slot count needs
 pub record Spacious (h : Head) (f : Fields) (nx pv st cells : List ℕ) : Type 0 where
@@ -110,7 +111,8 @@ pub record Holds (h : Head) (f : Fields) (nx pv st cells : List ℕ) (n : ℕ) :
   pub allowed : (1 ≤ n) × (n ≤ mostCapacity)
   pub fits : spent (cache .desk .entries) ≤ n
 
--- the capacity is n
+-- the capacity is n; where it was no larger before, the cells are as they were
 pub record Capped (h : Head) (f : Fields) (nx pv st cells : List ℕ) (r : Head) (g : Fields) (nx' pv' st' cells' : List ℕ) (n : ℕ) : Type 0 where
   pub tails : Tails (h .slots) f nx pv st cells g nx' pv' st' cells'
   pub described : (c : Cache) → spent (c .desk .entries) ≤ n → Describes h f nx pv st cells c → Describes r g nx' pv' st' cells' (capped n c)
+  pub table : h .capacity ≤ n → cells' ≡ cells

@@ -1,3 +1,4 @@
 pub mod State
 pub mod Caches
+pub mod Lengths
 pub mod Acts

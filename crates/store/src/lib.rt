@@ -4,14 +4,88 @@ use head::Head;
 use head::Row;
 use head::Slot;
 ghost use mathlib.Core.Path.{_≡_};
-ghost use Prim.Native.Nat.{_+_, _*_, _≤_, _<_};
+ghost use Prim.Native.Nat.{_+_, _≤_, _<_};
 ghost use lib.ListN.{length, drop, set, replicate};
 ghost use mathlib.Core.List.{_++_};
 ghost use Rattle.store.specs.State.{fields, entryIn};
+ghost use Rattle.store.specs.Lengths.{longEnough};
 ghost use Rattle.store.specs.Acts.{Writable, Wrote, Occupied, Dropped, Admits, Added, Rich, Shed, Spacious, Emptied, Holds, Capped};
 
-// Writes an entry into a slot.
+// Whether lists of these lengths have room for n slots.
+pub fn long_enough(
+    n: u32,
+    codes: usize,
+    stamps: usize,
+    values: usize,
+    weights: usize,
+    next: usize,
+    prev: usize,
+    stack: usize,
+    cells: usize,
+) -> bool
+    ensures { λ r. ⌜ r ≡ longEnough n codes stamps values weights next prev stack cells ⌝ }
+{
+    let m = n as usize;
+    if codes < m {
+        return false;
+    }
+    if stamps < m {
+        return false;
+    }
+    if values < m {
+        return false;
+    }
+    if weights < m {
+        return false;
+    }
+    if next < m {
+        return false;
+    }
+    if prev < m {
+        return false;
+    }
+    if stack < m {
+        return false;
+    }
+    2 * m <= cells
+}
+
+// Writes a row at a place of four lists.
 pub fn write(
+    codes: &mut [u64],
+    stamps: &mut [u32],
+    values: &mut [u64],
+    weights: &mut [u64],
+    at: u32,
+    row: Row,
+)
+    requires { ⌜ Writable at (fields (now codes) (now stamps) (now values) (now weights)) ⌝ }
+    ensures { λ _. ⌜ Wrote at row (fields (now (codes .entry)) (now (stamps .entry)) (now (values .entry)) (now (weights .entry))) (fields (now (codes .exit)) (now (stamps .exit)) (now (values .exit)) (now (weights .exit))) ⌝ }
+{
+    let i = at as usize;
+    let code = row.code;
+    codes[i] = code.0;
+    stamps[i] = row.stamp;
+    values[i] = row.value;
+    weights[i] = row.weight;
+}
+
+// The row at a place of four lists.
+pub fn read(codes: &[u64], stamps: &[u32], values: &[u64], weights: &[u64], at: u32) -> Row
+    requires { ⌜ Writable at (fields (now codes) (now stamps) (now values) (now weights)) ⌝ }
+    ensures { λ r. ⌜ r ≡ entryIn (fields (now (codes .entry)) (now (stamps .entry)) (now (values .entry)) (now (weights .entry))) at ⌝ }
+{
+    let i = at as usize;
+    Row {
+        code: Code(codes[i]),
+        stamp: stamps[i],
+        value: values[i],
+        weight: weights[i],
+    }
+}
+
+// Writes an entry into a slot.
+fn set_row(
     codes: &mut [u64],
     stamps: &mut [u32],
     values: &mut [u64],
@@ -22,12 +96,7 @@ pub fn write(
     requires { ⌜ Writable (slot .0) (fields (now codes) (now stamps) (now values) (now weights)) ⌝ }
     ensures { λ _. ⌜ Wrote (slot .0) row (fields (now (codes .entry)) (now (stamps .entry)) (now (values .entry)) (now (weights .entry))) (fields (now (codes .exit)) (now (stamps .exit)) (now (values .exit)) (now (weights .exit))) ⌝ }
 {
-    let i = slot.0 as usize;
-    let code = row.code;
-    codes[i] = code.0;
-    stamps[i] = row.stamp;
-    values[i] = row.value;
-    weights[i] = row.weight;
+    write(codes, stamps, values, weights, slot.0, row);
 }
 
 // What a slot holds.
@@ -35,13 +104,7 @@ pub fn row_at(codes: &[u64], stamps: &[u32], values: &[u64], weights: &[u64], sl
     requires { ⌜ Writable (slot .0) (fields (now codes) (now stamps) (now values) (now weights)) ⌝ }
     ensures { λ r. ⌜ r ≡ entryIn (fields (now (codes .entry)) (now (stamps .entry)) (now (values .entry)) (now (weights .entry))) (slot .0) ⌝ }
 {
-    let i = slot.0 as usize;
-    Row {
-        code: Code(codes[i]),
-        stamp: stamps[i],
-        value: values[i],
-        weight: weights[i],
-    }
+    read(codes, stamps, values, weights, slot.0)
 }
 
 // Sets the value in a slot.
@@ -80,7 +143,7 @@ pub fn remove(
         value: 0,
         weight: 0,
     };
-    write(codes, stamps, values, weights, slot, blank);
+    set_row(codes, stamps, values, weights, slot, blank);
     let r = list::remove(head, next, prev, stack, slot);
     let left = r.weight - w;
     r.with_weight(left)
@@ -106,7 +169,7 @@ pub fn add(
     let weight = head.weight + row.weight;
     let t = list::push_front(head, next, prev, stack);
     let slot = t.slot;
-    write(codes, stamps, values, weights, slot, row);
+    set_row(codes, stamps, values, weights, slot, row);
     table::insert(cells, codes, n, slot);
     let h = t.head;
     h.with_weight(weight)

@@ -11,17 +11,17 @@ use Rattle.head.specs.declared.Rule.{Rule}
 use Rattle.head.specs.Bounds.{noneMark}
 use Rattle.head.specs.Fields.{Fields}
 use Rattle.model.specs.Lists.{only}
-use Rattle.model.specs.Desk.{keeps}
+use Rattle.model.specs.Desk.{keeps, marks}
 use Rattle.model.specs.Moves as moves
 use Rattle.model.specs.Perform.{Cache}
 use Rattle.model.proofs.Cases.{split}
-use Rattle.model.proofs.Counting.{sized, of-without}
+use Rattle.model.proofs.Counting.{sized, of-without, of-marked, length-marks}
 use Rattle.model.proofs.Parts.{drop-without}
 use Rattle.list.specs.Order.{headOr}
 use Rattle.list.proofs.Walks.{walk-on}
 use Rattle.store.specs.State.{entryIn, Describes, Whole}
 use Rattle.store.specs.Caches.{after, sweptFrom}
-use Rattle.store.specs.Acts.{Tails, Occupied}
+use Rattle.store.specs.Acts.{Tails, Occupied, Dropped}
 use Rattle.store.proofs.Described.{order-length, order-live}
 use Rattle.store.proofs.Evicting.{tails-same, tails-trans}
 use Rattle.store.proofs.Exchanged.{entry-at}
@@ -44,9 +44,12 @@ pub record Looking (h : Head) (f : Fields) (nx pv st cells : List ℕ) (slot lef
   pub rest : kept + left ≡ length (cache .desk .entries)
   pub same : goal ≡ sweptFrom kept q cache
 
+-- what has been looked at, and that no cell changed while all stayed
 pub record Sweeping (h₀ : Head) (f₀ : Fields) (nx₀ pv₀ st₀ cells₀ : List ℕ) (q : Rule) (h : Head) (f : Fields) (nx pv st cells : List ℕ) (slot left : ℕ) : Type 0 where
   pub tails : Tails (h₀ .slots) f₀ nx₀ pv₀ st₀ cells₀ f nx pv st cells
   pub onward : (c : Cache) → Describes h₀ f₀ nx₀ pv₀ st₀ cells₀ c → Looking h f nx pv st cells slot left q (after (moves.sweep q) c)
+  pub fewer : h .live ≤ h₀ .live
+  pub table : h .live ≡ h₀ .live → cells ≡ cells₀
 
 pub sweep-start : (h : Head) (f : Fields) (nx pv st cells : List ℕ) (q : Rule) → Sweeping h f nx pv st cells q h f nx pv st cells (h .front .0) (h .live)
 sweep-start h f nx pv st cells q = record {
@@ -59,6 +62,8 @@ sweep-start h f nx pv st cells q = record {
     rest = omega (arith, order-live d);
     same = refl;
   };
+  fewer = omega arith;
+  table = λ z. refl;
 }
 
 module _ {h₀ : Head} {f₀ : Fields} {nx₀ pv₀ st₀ cells₀ : List ℕ} {q : Rule} {h : Head} {f : Fields} {nx pv st cells : List ℕ} {slot left : ℕ}
@@ -120,11 +125,21 @@ module _ {h₀ : Head} {f₀ : Fields} {nx₀ pv₀ st₀ cells₀ : List ℕ} {
                       o .same
                       ∙ swept-kept (o .kept) q (o .cache) (entryIn f slot) slot (entry-at (o .described) (o .kept) slot (there goal o)) (there goal o) (sym is ∙ t);
                 };
+            fewer = e .fewer;
+            table = e .table;
           })
+
+      fewer-live : Dropped h f nx pv st cells r g nx' pv' st' cells' slot → r .live < h .live
+      fewer-live p =
+          let o = look in
+          let at = there (after (moves.sweep q) (w .cache)) o in
+          let d = p .described (o .cache) (o .kept) at (o .described) in
+          omega (arith, order-live (o .described), order-live d, of-without sized (o .kept) (o .cache .desk .entries), ap length (entry-at (o .described) (o .kept) slot at))
 
       goes : keep ≡ false → Sweeping h₀ f₀ nx₀ pv₀ st₀ cells₀ q r g nx' pv' st' cells' (getD nx slot 0) (left - 1)
       goes t =
           let p = j .dropped t in
+          let gone = fewer-live p in
           record {
             tails = tails-trans (e .tails) (rw (sym slots-same) (p .tails));
             onward = λ c d.
@@ -140,14 +155,22 @@ module _ {h₀ : Head} {f₀ : Fields} {nx₀ pv₀ st₀ cells₀ : List ℕ} {
                   rest = omega (arith, o .rest, of-without sized (o .kept) (o .cache .desk .entries), ap length es);
                   same = o .same ∙ swept-dropped (o .kept) q (o .cache) (entryIn f slot) slot es at (sym is ∙ t);
                 };
+            fewer = omega (arith, e .fewer);
+            table = λ z. absurd (omega (arith, e .fewer));
           }
 
   pub sweep-end : left ≤ 0 → Swept h₀ f₀ nx₀ pv₀ st₀ cells₀ h f nx pv st cells q
   sweep-end done = record {
     tails = e .tails;
-    described = λ c d.
-        let o = e .onward c d in
-        let s : after (moves.sweep q) c ≡ o .cache =
-        o .same ∙ swept-end (o .kept) q (o .cache) (omega (arith, o .rest)) (omega (arith, o .rest, order-length (o .described))) in
-        rw s (o .described);
+    described = all;
+    table = λ c none d.
+        let es = c .desk .entries in
+        e .table (omega (arith, order-live d, order-live (all c d), of-marked sized (marks q es) es (length-marks q es), ap length none));
   }
+    where
+      all : (c : Cache) → Describes h₀ f₀ nx₀ pv₀ st₀ cells₀ c → Describes h f nx pv st cells (after (moves.sweep q) c)
+      all c d =
+          let o = e .onward c d in
+          let s : after (moves.sweep q) c ≡ o .cache =
+          o .same ∙ swept-end (o .kept) q (o .cache) (omega (arith, o .rest)) (omega (arith, o .rest, order-length (o .described))) in
+          rw s (o .described)

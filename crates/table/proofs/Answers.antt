@@ -12,7 +12,7 @@ use Rattle.head.specs.Bounds.{noneMark}
 use Rattle.table.specs.declared.Search.{Search}
 use Rattle.table.specs.declared.Search.the-variants.{Found, Empty}
 use Rattle.table.specs.Cells.{slotOf, wrap, ring, passed, answer, lookup, sought, slotIn, countIn, names}
-use Rattle.table.specs.Sound.{Open, Sound}
+use Rattle.table.specs.Sound.{Gapped, Sound}
 use Rattle.table.specs.Orders.{Same}
 use Rattle.table.specs.Acts.{Slotted, Holding}
 use Rattle.table.proofs.Ring.{eq-or-ne}
@@ -45,7 +45,7 @@ unfolding names
 names-found s e = ap (λ (r : Search). names r s) e ∙ eq-eqb s s refl
 
 -- in a table in which searches end, an answer that names a slot has found it
-pub named : (cells codes : List ℕ) (m h code : ℕ) → Open m cells codes → h < m → (s : ℕ) → names (lookup cells codes m h code) s ≡ true
+pub named : (cells codes : List ℕ) (m h code : ℕ) → Gapped m cells codes → h < m → (s : ℕ) → names (lookup cells codes m h code) s ≡ true
     → (cell : ℕ) × (count : ℕ) × (lookup cells codes m h code ≡ Found (slotOf s) cell count)
 named cells codes m h code o hm s t =
     ⊎-elim

@@ -13,11 +13,15 @@ use Rattle.head.specs.declared.Slot.{Slot}
 use Rattle.table.specs.declared.Search.the-variants.{Found}
 use Rattle.table.specs.declared.Tally.the-variants.{All}
 use Rattle.head.specs.Bounds.{noneMark}
+use Rattle.head.specs.Walks.{walk}
 use Rattle.table.specs.Cells.{slotOf, lookup}
-use Rattle.table.specs.Sound.{Distinct, Run, In, Open, Sound}
-use Rattle.table.specs.Links.{walk, Listed}
+use Rattle.model.specs.Codes.{Distinct}
+use Rattle.model.proofs.Members.{distinct-first, distinct-rest, distinct-more}
+use Rattle.table.specs.Sound.{Run, In, Gapped, Sound}
+use Rattle.table.specs.Links.{Listed}
 use Rattle.table.specs.Acts.{Decides, filled, tallied, counts, standing, allStanding}
 use Rattle.table.proofs.Ring.{and-both, eq-or-ne}
+use Rattle.table.proofs.Members.{walk-on, walk-end}
 use Rattle.table.proofs.Count.{filled-none, filled-some, gap}
 use Rattle.table.proofs.Tallies.{tallied-here, tallied-below, counts-all, all-counts}
 use Rattle.table.proofs.Answers.{named, names-found}
@@ -43,20 +47,19 @@ filled-set (x ∷ xs) (suc p) h n =
 
 -- distinct numbers that all stand in a list are no more than it has
 pub enough : (ys xs : List ℕ) → Distinct ys → ((y : ℕ) → List·Memᴰ y ys → (y ≢ noneMark) × In (length xs) xs y) → length ys ≤ filled xs
-unfolding Distinct
 enough [] xs d h = zero-le
 enough (y ∷ ys) xs d h =
     let w = h y (List·Memᴰ·head refl) in
     let e = w .1 in
     let f : getD xs (e .cell) 0 ≢ noneMark = λ z. w .0 (sym (e .holds) ∙ z) in
     subst (λ (n : ℕ). suc (length ys) ≤ n) (sym (filled-set xs (e .cell) (e .cell-in) f))
-    (suc-le-suc (enough ys (set xs (e .cell) noneMark) (d .1) (λ z k.
+    (suc-le-suc (enough ys (set xs (e .cell) noneMark) (distinct-rest y ys d) (λ z k.
     let v = h z (List·Memᴰ·tail k) in (
       v .0,
       record {
         cell = v .1 .cell;
         cell-in = subst (λ (n : ℕ). v .1 .cell < n) (sym (length-set xs (e .cell) noneMark)) (v .1 .cell-in);
-        holds = getD-set-other xs (e .cell) (v .1 .cell) noneMark 0 (λ q. d .0 (Memᴰ·cast (sym (e .holds) ∙ ap (λ (i : ℕ). getD xs i 0) (sym q) ∙ v .1 .holds) k)) ∙ v .1 .holds;
+        holds = getD-set-other xs (e .cell) (v .1 .cell) noneMark 0 (λ q. distinct-first y ys d (Memᴰ·cast (sym (e .holds) ∙ ap (λ (i : ℕ). getD xs i 0) (sym q) ∙ v .1 .holds) k)) ∙ v .1 .holds;
       },
     ))))
 
@@ -68,7 +71,7 @@ pub record Checked (home : ℕ → ℕ) (m : ℕ) (cells codes order : List ℕ)
   pub full : filled (take m cells) ≡ length order
   pub found : (s : ℕ) → List·Memᴰ s order → (cell : ℕ) × (count : ℕ) × (lookup cells codes m (home (getD codes s 0)) (getD codes s 0) ≡ Found (slotOf s) cell count)
 
-pub counted-open : {m : ℕ} {cells codes : List ℕ} → m ≤ length cells → filled (take m cells) < m → ((p : ℕ) → p < m → getD cells p 0 ≢ noneMark → getD cells p 0 < length codes) → Open m cells codes
+pub counted-open : {m : ℕ} {cells codes : List ℕ} → m ≤ length cells → filled (take m cells) < m → ((p : ℕ) → p < m → getD cells p 0 ≢ noneMark → getD cells p 0 < length codes) → Gapped m cells codes
 counted-open {m} {cells} w r s =
     let n = length-take-le m cells w in
     let g = gap (take m cells) (omega arith) in
@@ -76,7 +79,7 @@ counted-open {m} {cells} w r s =
     record { wide = w; gap = g .0; gap-in = l; gap-none = sym (getD-take m cells (g .0) 0 l) ∙ g .2; slots = s }
 
 -- as many full cells as slots are live, and fewer than cells: a search ends
-pub counts-open : {m : ℕ} {cells codes : List ℕ} (live : ℕ) → m ≤ length cells → live < m → counts live (tallied (length codes) (take m cells)) ≡ true → Open m cells codes
+pub counts-open : {m : ℕ} {cells codes : List ℕ} (live : ℕ) → m ≤ length cells → live < m → counts live (tallied (length codes) (take m cells)) ≡ true → Gapped m cells codes
 counts-open {m} {cells} {codes} live w r e =
     let b = tallied-below (length codes) m cells w (counts-all live (tallied (length codes) (take m cells)) e) in
     counted-open w (omega (arith, b .0)) (b .1)
@@ -93,7 +96,7 @@ module _ {home : ℕ → ℕ} {m : ℕ} {cells codes order : List ℕ} (room : l
     at : (p : ℕ) → p < m → getD c p 0 ≡ getD cells p 0
     at p l = getD-take m cells p 0 l
 
-    op : Open m cells codes
+    op : Gapped m cells codes
     op = counted-open (k .wide) (omega (arith, k .full, room)) (k .slots)
 
     stands : (s : ℕ) → List·Memᴰ s order → In m cells s
@@ -107,13 +110,12 @@ module _ {home : ℕ → ℕ} {m : ℕ} {cells codes order : List ℕ} (room : l
         (real s h .1, record { cell = w .cell; cell-in = omega (arith, w .cell-in, n); holds = at (w .cell) (w .cell-in) ∙ w .holds })
 
     only : (p : ℕ) → p < m → getD cells p 0 ≢ noneMark → List·Memᴰ (getD cells p 0) order
-    unfolding Distinct
     only p l e =
         ⊎-elim (λ h. h)
         (λ h. absurd (omega (
           arith,
           k .full,
-          enough (getD cells p 0 ∷ order) c (h, d) (λ y g.
+          enough (getD cells p 0 ∷ order) c (distinct-more (getD cells p 0) order h d) (λ y g.
               ⊎-elim (λ (q : y ≡ getD cells p 0). ((λ z. e (sym q ∙ z)), record { cell = p; cell-in = omega (arith, n); holds = at p l ∙ sym q })) (λ g′. stands-c y g′) (List·Memᴰ·cases-cons g)),
         )))
         (member (getD cells p 0) order)
@@ -198,7 +200,7 @@ module _ {home : ℕ → ℕ} {m : ℕ} {cells codes order : List ℕ} (room : l
 -- ---- the tests decide it
 
 module _ {home : ℕ → ℕ} {m : ℕ} (hb : (c : ℕ) → home c < m) (cells codes : List ℕ) where
-  standing-all : Open m cells codes → (order : List ℕ) → allStanding home m cells codes order ≡ true → (s : ℕ) → List·Memᴰ s order
+  standing-all : Gapped m cells codes → (order : List ℕ) → allStanding home m cells codes order ≡ true → (s : ℕ) → List·Memᴰ s order
       → (cell : ℕ) × (count : ℕ) × (lookup cells codes m (home (getD codes s 0)) (getD codes s 0) ≡ Found (slotOf s) cell count)
   unfolding allStanding
   standing-all o [] e s h = absurd (List·Memᴰ·not-nil h)
@@ -230,7 +232,7 @@ module _ {home : ℕ → ℕ} {n : ℕ} {cells codes next order : List ℕ} (hb 
   sound-standing d = all-standing hb cells codes order (sound-checked (l .room) hb (l .once) (l .coded) d .found)
 
   module _ (passed : tallied (length codes) (take (2 * n) cells) ≡ All (length order)) where
-    pub tallied-open : Open (2 * n) cells codes
+    pub tallied-open : Gapped (2 * n) cells codes
     tallied-open =
         let b = tallied-below (length codes) (2 * n) cells (l .wide) passed in
         counted-open (l .wide) (omega (arith, b .0, l .room)) (b .1)
@@ -265,11 +267,11 @@ module _ {home : ℕ → ℕ} {n : ℕ} {cells codes next order : List ℕ} (hb 
 
 pub record Asking (home : ℕ → ℕ) (m : ℕ) (cells codes next : List ℕ) (whole : Bool) (live slot i : ℕ) : Type 0 where
   pub i-le : i ≤ live
-  pub table : Open m cells codes
+  pub table : Gapped m cells codes
   pub coded : (s : ℕ) → List·Memᴰ s (walk next slot (live - i)) → (s < length codes) × (s < length next)
   pub same : whole ≡ allStanding home m cells codes (walk next slot (live - i))
 
-pub ask-start : {home : ℕ → ℕ} {n : ℕ} {cells codes next : List ℕ} (live front : ℕ) → Open (2 * n) cells codes → Listed n cells codes next (walk next front live)
+pub ask-start : {home : ℕ → ℕ} {n : ℕ} {cells codes next : List ℕ} (live front : ℕ) → Gapped (2 * n) cells codes → Listed n cells codes next (walk next front live)
     → Asking home (2 * n) cells codes next (allStanding home (2 * n) cells codes (walk next front live)) live front 0
 ask-start {home} {n} {cells} {codes} {next} live front o l =
     let z : live - 0 ≡ live = omega arith in
@@ -282,13 +284,12 @@ ask-start {home} {n} {cells} {codes} {next} live front o l =
 
 module _ {home : ℕ → ℕ} {m : ℕ} {cells codes next : List ℕ} {whole : Bool} {live slot i : ℕ} (v : Asking home m cells codes next whole live slot i) where
   pub ask-end : live ≤ i → true ≡ whole
-  unfolding walk allStanding
-  ask-end h = let z : live - i ≡ 0 = omega arith in sym (v .same ∙ ap (λ (j : ℕ). allStanding home m cells codes (walk next slot j)) z)
+  unfolding allStanding
+  ask-end h = sym (v .same ∙ ap (allStanding home m cells codes) (walk-end next slot live i h))
 
   module _ (h : i < live) where
     opened : walk next slot (live - i) ≡ slot ∷ walk next (getD next slot 0) (live - (i + 1))
-    unfolding walk
-    opened = let z : live - i ≡ suc (live - (i + 1)) = omega arith in ap (walk next slot) z
+    opened = walk-on next slot live i h
 
     pub ask-coded : (slot < length codes) × (slot < length next)
     ask-coded = v .coded slot (subst (List·Memᴰ slot) (sym opened) (List·Memᴰ·head refl))

@@ -1,4 +1,4 @@
--- What the answer of a search says, in an open table and in a sound one.
+-- What the answer of a search says, in a table with an empty cell and in a sound one.
 -- Assumes nothing.
 use mathlib.Core.Path.{_≡_, sym, ap, _∙_, subst}
 use mathlib.Core.Bool.{true, false, true≢false}
@@ -13,7 +13,7 @@ use Rattle.table.specs.declared.Search.{Search}
 use Rattle.table.specs.declared.Search.the-variants.{Found, Empty}
 use Rattle.head.specs.Bounds.{noneMark}
 use Rattle.table.specs.Cells.{slotOf, wrap, ring, stops, passed, answer, lookup}
-use Rattle.table.specs.Sound.{Run, here, Open, Sound}
+use Rattle.table.specs.Sound.{Run, here, Gapped, Sound}
 use Rattle.table.specs.Acts.{filled}
 use Rattle.table.proofs.Ring.{eq-or-ne, wrap-zero, next-wrap, ring-length, ring-at, past-stop, past-before}
 use Rattle.table.proofs.Seek.{at, stops-none, stops-code, stops-not, passed-lt, reads-in, lookup-at, answer-none, answer-some}
@@ -35,7 +35,7 @@ pub record EmptyAt (cells codes : List ℕ) (m h code cell count : ℕ) : Type 0
   pub count-is : count ≡ passed cells codes m h code + 1
   pub away : (p : ℕ) → Run cells m p h → getD codes (getD cells p 0) 0 ≡ code → cell ≡ p
 
-module _ (cells codes : List ℕ) (m h code : ℕ) (o : Open m cells codes) (hm : h < m) where
+module _ (cells codes : List ℕ) (m h code : ℕ) (o : Gapped m cells codes) (hm : h < m) where
   P : ℕ
   P = passed cells codes m h code
 
@@ -149,7 +149,7 @@ module _ {home : ℕ → ℕ} {m : ℕ} {cells codes order : List ℕ} (d : Soun
       (λ p l e. let l′ : p < m = omega arith in Memᴰ·cast (t p l′) (d .only p l′ (λ z. e (t p l′ ∙ z))))
       (λ p q l k e f. let l′ : p < m = omega arith in let k′ : q < m = omega arith in d .tidy .once p q l′ k′ (λ z. e (t p l′ ∙ z)) (sym (t p l′) ∙ f ∙ t q k′))
 
-  pub sound-open : Open m cells codes
+  pub sound-open : Gapped m cells codes
   sound-open =
       let n = length-take-le m cells (d .tidy .wide) in
       let g = gap (take m cells) (omega (arith, few, d .room)) in

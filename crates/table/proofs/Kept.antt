@@ -10,12 +10,12 @@ use Rattle.head.specs.Bounds.{noneMark}
 use Rattle.table.specs.Sound.{Run, Sound}
 use Rattle.table.specs.Orders.{Same, Without, omit}
 use Rattle.head.specs.Tails.{Tail}
-use Rattle.table.specs.Acts.{Removed, cleared}
+use Rattle.table.specs.Acts.{TakenOut, cleared}
 use Rattle.table.proofs.Members.{omit-without, place-without, front-same, front-short}
 
 -- slot s is taken out: the table describes any list of the others
 pub removed-sound : {home : ℕ → ℕ} {m s : ℕ} {codes cells cells′ order order′ : List ℕ}
-    → Sound home m cells codes order → Removed home m codes s cells cells′ → Without s order order′ → Sound home m cells′ codes order′
+    → Sound home m cells codes order → TakenOut home m codes s cells cells′ → Without s order order′ → Sound home m cells′ codes order′
 removed-sound d r w =
     record {
       tidy = r .tidy;
@@ -73,11 +73,11 @@ pub front-sound : {home : ℕ → ℕ} {m s : ℕ} {cells codes order : List ℕ
 front-sound d h = order-sound d (omega (arith, d .room, front-short h)) (front-same h)
 
 -- slot s left out by its number
-pub omit-sound : {home : ℕ → ℕ} {m s : ℕ} {codes cells cells′ order : List ℕ} → Sound home m cells codes order → Removed home m codes s cells cells′ → Sound home m cells′ codes (omit s order)
+pub omit-sound : {home : ℕ → ℕ} {m s : ℕ} {codes cells cells′ order : List ℕ} → Sound home m cells codes order → TakenOut home m codes s cells cells′ → Sound home m cells′ codes (omit s order)
 omit-sound {s} {order} d r = removed-sound d r (omit-without s order)
 
 -- slot s left out at its place
-pub place-sound : {home : ℕ → ℕ} {m s : ℕ} {codes cells cells′ : List ℕ} (xs ys : List ℕ) → Sound home m cells codes (xs ++ s ∷ ys) → Removed home m codes s cells cells′
+pub place-sound : {home : ℕ → ℕ} {m s : ℕ} {codes cells cells′ : List ℕ} (xs ys : List ℕ) → Sound home m cells codes (xs ++ s ∷ ys) → TakenOut home m codes s cells cells′
     → (List·Memᴰ s (xs ++ ys) → ⊥) → Sound home m cells′ codes (xs ++ ys)
 place-sound {s} xs ys d r n = removed-sound d r (place-without xs ys s n)
 

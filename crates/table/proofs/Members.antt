@@ -1,14 +1,14 @@
--- Which lists have the same members, all members but one, and which orders the links walk.
+-- Which lists have the same members, all members but one; and a walk along links, step by step.
 -- Assumes nothing.
-use mathlib.Core.Path.{_≡_, refl, sym, ap, _∙_, subst}
+use mathlib.Core.Path.{_≡_, sym, ap, _∙_, subst}
 use mathlib.Core.Logic.{_≢_, ⊎-elim}
 use mathlib.Core.List.{List, [], _∷_, _++_, List·Memᴰ, List·Memᴰ·head, List·Memᴰ·tail, List·Memᴰ·cases-cons, List·Memᴰ·not-nil, Memᴰ·cast, Memᴰ·append-left, Memᴰ·append-right, List·Memᴰ·append-cases}
-use Prim.Native.Nat.{ℕ, zero, suc, _≤_, zero-le}
+use Prim.Native.Nat.{ℕ, suc, _+_, _-_, _≤_, _<_, zero-le}
 use native.Mathlib.Omega.{arith}
 use borrow.Author.Tests.{eq-eqb, ne-eqb}
 use lib.ListN.{length, getD, length-append}
+use Rattle.head.specs.Walks.{walk}
 use Rattle.table.specs.Orders.{Same, Without, omit}
-use Rattle.table.specs.Links.{walk, Chain, ends, goes}
 use Rattle.table.proofs.Ring.{eq-or-ne}
 
 -- ---- without a number
@@ -89,22 +89,11 @@ front-short {s} (List·Memᴰ·tail {x = x} {xs = xs} h) =
 
 -- ---- walked by links
 
-pub walk-length : (next : List ℕ) (cur k : ℕ) → length (walk next cur k) ≡ k
+-- k slots are walked in all: behind i of them the walk goes on, or ends
+pub walk-on : (next : List ℕ) (at k i : ℕ) → i < k → walk next at (k - i) ≡ at ∷ walk next (getD next at 0) (k - (i + 1))
 unfolding walk
-walk-length next cur zero = refl
-walk-length next cur (suc k) = ap suc (walk-length next (getD next cur 0) k)
+walk-on next at k i h = let z : k - i ≡ suc (k - (i + 1)) = omega arith in ap (walk next at) z
 
--- the links walk what they walk, and nothing else of that length
-pub walk-chain : (next : List ℕ) (cur k : ℕ) → Chain next cur (walk next cur k)
+pub walk-end : (next : List ℕ) (at k i : ℕ) → k ≤ i → walk next at (k - i) ≡ []
 unfolding walk
-walk-chain next cur zero = ends
-walk-chain next cur (suc k) = goes refl (walk-chain next (getD next cur 0) k)
-
-pub chain-walk : {next order : List ℕ} {cur : ℕ} → Chain next cur order → walk next cur (length order) ≡ order
-unfolding walk
-chain-walk ends = refl
-chain-walk {next} (goes {s = s} {order = order} e c) =
-    ap (λ (x : ℕ). s ∷ walk next x (length order)) e ∙ ap (λ (l : List ℕ). s ∷ l) (chain-walk c)
-
-pub chain-is : {next order : List ℕ} {cur : ℕ} (k : ℕ) → Chain next cur order → length order ≡ k → walk next cur k ≡ order
-chain-is {next} {cur} k c e = ap (walk next cur) (sym e) ∙ chain-walk c
+walk-end next at k i h = let z : k - i ≡ 0 = omega arith in ap (walk next at) z

@@ -9,7 +9,7 @@ use lib.ListN.{length, getD, set, length-set}
 use lib.Seq.{getD-set-same, getD-set-other, drop-set-lt}
 use Rattle.table.specs.declared.Search.{Search}
 use Rattle.head.specs.Bounds.{noneMark}
-use Rattle.table.specs.Sound.{Open, Run, In, Sound}
+use Rattle.table.specs.Sound.{Gapped, Run, In, Sound}
 use Rattle.head.specs.Tails.{Tail}
 use Rattle.table.specs.Acts.{inserted, placed}
 use Rattle.table.proofs.Ring.{eq-or-ne}
@@ -107,7 +107,7 @@ insert-sound {home} {m} {cells} {codes} {order} hb d s real fresh room =
     (lookup-cases cells codes m (home x) x (sound-open d) (hb x))
 
 -- what lies past the cells is not touched
-pub insert-tail : {home : ℕ → ℕ} {m : ℕ} {cells codes : List ℕ} → ((c : ℕ) → home c < m) → Open m cells codes → (s : ℕ) → Tail m cells (inserted home m cells codes s)
+pub insert-tail : {home : ℕ → ℕ} {m : ℕ} {cells codes : List ℕ} → ((c : ℕ) → home c < m) → Gapped m cells codes → (s : ℕ) → Tail m cells (inserted home m cells codes s)
 unfolding placed
 insert-tail {home} {m} {cells} {codes} hb o s =
     let x = getD codes s 0 in

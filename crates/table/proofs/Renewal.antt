@@ -3,14 +3,18 @@
 use mathlib.Core.Path.{_≡_, refl, sym, ap, _∙_, subst}
 use mathlib.Core.Logic.{_≢_, _⊎_, inl, inr, ⊎-elim}
 use mathlib.Core.List.{List, [], _∷_, List·Memᴰ, List·Memᴰ·head, List·Memᴰ·tail, List·Memᴰ·cases-cons, List·Memᴰ·not-nil, Memᴰ·cast}
-use Prim.Native.Nat.{ℕ, suc, _+_, _-_, _*_, _≤_, _<_}
+use Prim.Native.Nat.{ℕ, _+_, _-_, _*_, _≤_, _<_}
 use native.Mathlib.Omega.{arith}
 use lib.ListN.{length, getD, drop}
-use Rattle.table.specs.Sound.{Distinct, Sound}
-use Rattle.table.specs.Links.{walk, Keyed}
+use Rattle.head.specs.Walks.{walk}
+use Rattle.head.proofs.Walking.{walk-length}
+use Rattle.model.specs.Codes.{Distinct}
+use Rattle.model.proofs.Members.{distinct-first, distinct-rest}
+use Rattle.table.specs.Sound.{Sound}
+use Rattle.table.specs.Links.{Keyed}
 use Rattle.head.specs.Tails.{Tail}
 use Rattle.table.specs.Acts.{Slotted, Rebuilt, inserted, cleared}
-use Rattle.table.proofs.Members.{walk-length}
+use Rattle.table.proofs.Members.{walk-on, walk-end}
 use Rattle.table.proofs.Found.{sound-open}
 use Rattle.table.proofs.Placed.{insert-sound, insert-tail}
 use Rattle.table.proofs.Kept.{clear-sound, clear-tail, order-sound}
@@ -71,24 +75,21 @@ renew-whole k e r =
 module _ {home : ℕ → ℕ} {n : ℕ} {cells₀ codes next order cells : List ℕ} {live slot i : ℕ} (hb : (c : ℕ) → home c < 2 * n)
     (v : Renewing home n cells₀ codes next order cells live slot i) where
   pub renew-end : live ≤ i → Rebuilt home (2 * n) codes order cells₀ cells
-  unfolding walk
   renew-end h =
-      let z : live - i ≡ 0 = omega arith in
       record {
-        sound = order-sound (v .sound) (v .keyed .listed .room) (record { to = v .was; from = all z });
+        sound = order-sound (v .sound) (v .keyed .listed .room) (record { to = v .was; from = all });
         tail = v .tail;
       }
     where
-      all : live - i ≡ 0 → (s : ℕ) → List·Memᴰ s order → List·Memᴰ s (v .done)
-      all z s h = ⊎-elim (λ k. k) (λ k. absurd (List·Memᴰ·not-nil (subst (λ (j : ℕ). List·Memᴰ s (walk next slot j)) z k))) (v .split s h)
+      all : (s : ℕ) → List·Memᴰ s order → List·Memᴰ s (v .done)
+      all s m = ⊎-elim (λ k. k) (λ k. absurd (List·Memᴰ·not-nil (subst (List·Memᴰ s) (walk-end next slot live i h) k))) (v .split s m)
 
   module _ (h : i < live) where
     abbrev rest : List ℕ
     rest = walk next (getD next slot 0) (live - (i + 1))
 
     opened : walk next slot (live - i) ≡ slot ∷ rest
-    unfolding walk
-    opened = let z : live - i ≡ suc (live - (i + 1)) = omega arith in ap (walk next slot) z
+    opened = walk-on next slot live i h
 
     here : List·Memᴰ slot order
     here = v .will slot (subst (List·Memᴰ slot) (sym opened) (List·Memᴰ·head refl))
@@ -101,7 +102,6 @@ module _ {home : ℕ → ℕ} {n : ℕ} {cells₀ codes next order cells : List 
 
     pub renew-on : {cells′ : List ℕ} {y t : ℕ} → cells′ ≡ inserted home (2 * n) cells codes slot → y ≡ slot → t ≡ getD next y 0
         → Renewing home n cells₀ codes next order cells′ live t (i + 1)
-    unfolding Distinct
     renew-on {cells′} {y} {t} e q r =
         let onward : rest ≡ walk next t (live - (i + 1)) = ap (λ (x : ℕ). walk next x (live - (i + 1))) (sym (r ∙ ap (λ (x : ℕ). getD next x 0) q)) in
         let once′ : Distinct (slot ∷ rest) = subst Distinct opened (v .once) in
@@ -121,7 +121,7 @@ module _ {home : ℕ → ℕ} {n : ℕ} {cells₀ codes next order cells : List 
           was = λ s k. ⊎-elim (λ (w : s ≡ slot). Memᴰ·cast w here) (v .was s) (List·Memᴰ·cases-cons k);
           will = λ s k. v .will s (later s (subst (List·Memᴰ s) (sym onward) k));
           apart = λ s k w. apart′ once′ s k (subst (List·Memᴰ s) (sym onward) w);
-          once = subst Distinct onward (after′ once′);
+          once = subst Distinct onward (distinct-rest slot rest once′);
         }
       where
         fresh : (s : ℕ) → List·Memᴰ s (v .done) → getD codes s 0 ≢ getD codes slot 0
@@ -138,7 +138,4 @@ module _ {home : ℕ → ℕ} {n : ℕ} {cells₀ codes next order cells : List 
             (v .split s k)
 
         apart′ : Distinct (slot ∷ rest) → (s : ℕ) → List·Memᴰ s (slot ∷ v .done) → List·Memᴰ s rest → ⊥
-        apart′ o s k w = ⊎-elim (λ (z : s ≡ slot). o .0 (Memᴰ·cast (sym z) w)) (λ z. v .apart s z (later s w)) (List·Memᴰ·cases-cons k)
-
-        after′ : Distinct (slot ∷ rest) → Distinct rest
-        after′ o = o .1
+        apart′ o s k w = ⊎-elim (λ (z : s ≡ slot). distinct-first slot rest o (Memᴰ·cast (sym z) w)) (λ z. v .apart s z (later s w)) (List·Memᴰ·cases-cons k)

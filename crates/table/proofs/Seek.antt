@@ -1,4 +1,4 @@
--- A search in an open table, step by step.
+-- A search in a table with an empty cell, step by step.
 -- Assumes nothing.
 use mathlib.Core.Path.{_≡_, refl, sym, ap, _∙_, subst}
 use mathlib.Core.Bool.{true, false}
@@ -12,7 +12,7 @@ use lib.ListN.{getD}
 use Rattle.table.specs.declared.Search.the-variants.{Found, Empty}
 use Rattle.head.specs.Bounds.{noneMark}
 use Rattle.table.specs.Cells.{slotOf, wrap, cellAfter, ring, stops, passed, answer, lookup}
-use Rattle.table.specs.Sound.{Open}
+use Rattle.table.specs.Sound.{Gapped}
 use Rattle.table.proofs.Ring.{or-right, wrap-in, wrap-lt, next-wrap, way, ring-length, ring-at, past-lt, ends, goes-on}
 
 pub stops-none : (codes : List ℕ) (code x : ℕ) → x ≡ noneMark → stops codes code x ≡ true
@@ -35,7 +35,7 @@ pub answer-some : (x cell count : ℕ) → x ≢ noneMark → answer x cell coun
 unfolding answer
 answer-some x cell count e = rw (ne-eqb x noneMark e)
 
-module _ (cells codes : List ℕ) (m h code : ℕ) (o : Open m cells codes) (hm : h < m) where
+module _ (cells codes : List ℕ) (m h code : ℕ) (o : Gapped m cells codes) (hm : h < m) where
   -- what stands in the cell that is read after k others
   abbrev pub at : ℕ → ℕ
   at k = getD cells (wrap m (h + k)) 0
@@ -75,14 +75,14 @@ module _ (cells codes : List ℕ) (m h code : ℕ) (o : Open m cells codes) (hm 
 -- ---- the loop of a search: `before` cells are passed, and `cell` is read as number `count`
 
 pub record Seeking (cells codes : List ℕ) (m h code cell count : ℕ) : Type 0 where
-  pub table : Open m cells codes
+  pub table : Gapped m cells codes
   pub home-in : h < m
   pub before : ℕ
   pub count-is : count ≡ before + 1
   pub cell-is : cell ≡ wrap m (h + before)
   pub so-far : before ≤ passed cells codes m h code
 
-pub seek-start : (cells codes : List ℕ) (m h code : ℕ) → Open m cells codes → h < m → Seeking cells codes m h code h 1
+pub seek-start : (cells codes : List ℕ) (m h code : ℕ) → Gapped m cells codes → h < m → Seeking cells codes m h code h 1
 seek-start cells codes m h code o hm =
     record { table = o; home-in = hm; before = 0; count-is = refl; cell-is = sym (wrap-in m (h + 0) (omega arith) ∙ omega arith); so-far = omega arith }
 

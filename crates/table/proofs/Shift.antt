@@ -13,8 +13,8 @@ use lib.ListN.{length, getD, take, drop, set, length-set}
 use lib.Seq.{getD-set-same, getD-set-other, getD-take, length-take-le, drop-set-lt}
 use Rattle.head.specs.Bounds.{noneMark}
 use Rattle.table.specs.Cells.{cellAfter, past}
-use Rattle.table.specs.Sound.{Run, here, over, In, Open, Tidy}
-use Rattle.table.specs.Acts.{between, Removed}
+use Rattle.table.specs.Sound.{Run, here, over, In, Gapped, Tidy}
+use Rattle.table.specs.Acts.{between, TakenOut}
 use Rattle.table.proofs.Ring.{eq-or-ne, next-lt, past-lt, past-stop}
 use Rattle.table.proofs.Runs.{run-keep, run-stop}
 use Rattle.table.proofs.Between.{run-from, run-within, around, far, nearer}
@@ -27,7 +27,7 @@ is-none x = eqb x noneMark
 pub gapOf : ℕ → List ℕ → ℕ
 gapOf m cells = past is-none (take m cells)
 
-pub gap-there : {m : ℕ} {cells codes : List ℕ} → Open m cells codes → (gapOf m cells < m) × (getD cells (gapOf m cells) 0 ≡ noneMark)
+pub gap-there : {m : ℕ} {cells codes : List ℕ} → Gapped m cells codes → (gapOf m cells < m) × (getD cells (gapOf m cells) 0 ≡ noneMark)
 unfolding gapOf is-none
 gap-there {m} {cells} o =
     let n = length-take-le m cells (o .wide) in
@@ -91,7 +91,7 @@ module _ {home : ℕ → ℕ} {m : ℕ} {codes d : List ℕ} {hole : ℕ} where
 -- ---- the loop's invariant: the slot s is taken out of `cells`; d is the table now, with a hole, and `at` is looked at next
 
 pub record Shifting (home : ℕ → ℕ) (m : ℕ) (codes : List ℕ) (s : ℕ) (cells d : List ℕ) (hole at : ℕ) : Type 0 where
-  pub open′ : Open m cells codes
+  pub open′ : Gapped m cells codes
   pub long : length d ≡ length cells
   pub tail : drop m d ≡ drop m cells
   pub hole-in : hole < m
@@ -105,7 +105,7 @@ pub record Shifting (home : ℕ → ℕ) (m : ℕ) (codes : List ℕ) (s : ℕ) 
   pub left : (x : ℕ) → x ≢ noneMark → x ≢ s → In m cells x → (w : In m d x) × (w .cell ≢ hole)
   pub only : (p : ℕ) → p < m → p ≢ hole → getD d p 0 ≢ noneMark → (getD d p 0 ≢ s) × In m cells (getD d p 0)
 
-pub shift-start : {home : ℕ → ℕ} {m : ℕ} {codes cells : List ℕ} {cell : ℕ} → Open m cells codes → Tidy home m cells codes → cell < m → getD cells cell 0 ≢ noneMark
+pub shift-start : {home : ℕ → ℕ} {m : ℕ} {codes cells : List ℕ} {cell : ℕ} → Gapped m cells codes → Tidy home m cells codes → cell < m → getD cells cell 0 ≢ noneMark
     → {i : ℕ} → i ≡ cellAfter m cell → Shifting home m codes (getD cells cell 0) cells cells cell i
 shift-start {m} {cells} {cell} o t l f {i} q =
     record {
@@ -294,7 +294,7 @@ module _ {home : ℕ → ℕ} {m : ℕ} {codes : List ℕ} {s : ℕ} {cells d : 
             subst (λ (k : ℕ). (k ≢ s) × In m cells k) (sym (x .same)) (v .only (x .from) (x .from-in) (x .from-hole) (λ z. n (x .same ∙ z)))
 
   -- nothing more to shift
-  pub shift-end : getD d at 0 ≡ noneMark → Removed home m codes s cells (cut d hole)
+  pub shift-end : getD d at 0 ≡ noneMark → TakenOut home m codes s cells (cut d hole)
   shift-end z =
       record {
         tail = record { size = length-set d hole noneMark ∙ v .long; tail = drop-set-lt m d hole noneMark (v .hole-in) ∙ v .tail };

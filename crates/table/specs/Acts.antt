@@ -13,14 +13,14 @@ use Rattle.table.specs.declared.Search.the-variants.{Found, Empty}
 use Rattle.table.specs.declared.Tally.{Tally}
 use Rattle.table.specs.declared.Tally.the-variants.{All, Stray}
 use Rattle.table.specs.Cells.{sought, names}
-use Rattle.table.specs.Sound.{Open, In, Tidy, Sound}
+use Rattle.table.specs.Sound.{Gapped, In, Tidy, Sound}
 use Rattle.head.specs.Tails.{Tail}
 
 -- ---- insert
 
--- an open table, and a slot that has a code
+-- a table with an empty cell, and a slot that has a code
 pub record Slotted (m : ℕ) (cells codes : List ℕ) (s : ℕ) : Type 0 where
-  pub table : Open m cells codes
+  pub table : Gapped m cells codes
   pub coded : s < length codes
 
 -- a slot is put where a search for its code ended, if that cell is empty
@@ -34,9 +34,9 @@ inserted home m cells codes s = placed (sought home m cells codes (getD codes s 
 
 -- ---- remove
 
--- a cell that holds a slot, in an open and tidy table
+-- a cell that holds a slot, in a tidy table with an empty cell
 pub record Holding (home : ℕ → ℕ) (m : ℕ) (cells codes : List ℕ) (cell : ℕ) : Type 0 where
-  pub table : Open m cells codes
+  pub table : Gapped m cells codes
   pub tidy : Tidy home m cells codes
   pub cell-in : cell < m
   pub full : getD cells cell 0 ≢ noneMark
@@ -52,7 +52,7 @@ pub record Live (home : ℕ → ℕ) (m : ℕ) (cells codes : List ℕ) (s : ℕ
   pub live : List·Memᴰ s order
 
 -- slot s is taken out, and exactly the others stand in a tidy table
-pub record Removed (home : ℕ → ℕ) (m : ℕ) (codes : List ℕ) (s : ℕ) (cells cells′ : List ℕ) : Type 0 where
+pub record TakenOut (home : ℕ → ℕ) (m : ℕ) (codes : List ℕ) (s : ℕ) (cells cells′ : List ℕ) : Type 0 where
   pub tail : Tail m cells cells′
   pub tidy : Tidy home m cells′ codes
   pub left : (x : ℕ) → x ≢ noneMark → x ≢ s → In m cells x → In m cells′ x

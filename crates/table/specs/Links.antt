@@ -1,22 +1,12 @@
--- The order of slots that the links walk, and what the table asks of it.
+-- What the table asks of the order of slots that the links walk.
 -- Assumes nothing.
 use mathlib.Core.Path.{_≡_}
 use mathlib.Core.Logic.{_≢_}
-use mathlib.Core.List.{List, [], _∷_, List·Memᴰ}
-use Prim.Native.Nat.{ℕ, zero, suc, _*_, _≤_, _<_}
+use mathlib.Core.List.{List, List·Memᴰ}
+use Prim.Native.Nat.{ℕ, _*_, _≤_, _<_}
 use lib.ListN.{length, getD}
 use Rattle.head.specs.Bounds.{noneMark}
-use Rattle.table.specs.Sound.{Distinct}
-
--- k slots from `cur` on, each link naming the one after
-unfoldable pub walk : List ℕ → ℕ → ℕ → List ℕ
-walk next cur zero = []
-walk next cur (suc k) = cur ∷ walk next (getD next cur 0) k
-
--- the links walk an order from `cur` on; what the last one's link holds is open
-pub data Chain (next : List ℕ) : ℕ → List ℕ → Type 0 where
-  ends : {cur : ℕ} → Chain next cur []
-  goes : {s t : ℕ} {order : List ℕ} → getD next s 0 ≡ t → Chain next t order → Chain next s (s ∷ order)
+use Rattle.model.specs.Codes.{Distinct}
 
 -- an order that 2n cells can describe: no slot twice, each within the lists, a cell left empty
 pub record Listed (n : ℕ) (cells codes next order : List ℕ) : Type 0 where

@@ -2,7 +2,7 @@
 -- Assumes nothing.
 use mathlib.Core.Path.{_≡_}
 use mathlib.Core.Logic.{_≢_}
-use mathlib.Core.List.{List, [], _∷_, List·Memᴰ}
+use mathlib.Core.List.{List, List·Memᴰ}
 use Prim.Native.Nat.{ℕ, _≤_, _<_}
 use lib.ListN.{length, getD}
 use Rattle.head.specs.Bounds.{noneMark}
@@ -14,7 +14,7 @@ pub data Run (cells : List ℕ) (m : ℕ) (j : ℕ) : ℕ → Type 0 where
   over : {i : ℕ} → getD cells i 0 ≢ noneMark → Run cells m j (cellAfter m i) → Run cells m j i
 
 -- what a search needs to end and to be safe: an empty cell, and slots that have a code
-pub record Open (m : ℕ) (cells codes : List ℕ) : Type 0 where
+pub record Gapped (m : ℕ) (cells codes : List ℕ) : Type 0 where
   pub wide : m ≤ length cells
   pub gap : ℕ
   pub gap-in : gap < m
@@ -42,8 +42,3 @@ pub record Sound (home : ℕ → ℕ) (m : ℕ) (cells codes order : List ℕ) :
   pub differ : (s t : ℕ) → List·Memᴰ s order → List·Memᴰ t order → getD codes s 0 ≡ getD codes t 0 → s ≡ t
   pub live : (s : ℕ) → List·Memᴰ s order → In m cells s
   pub only : (p : ℕ) → p < m → getD cells p 0 ≢ noneMark → List·Memᴰ (getD cells p 0) order
-
--- no number stands twice
-unfoldable pub Distinct : List ℕ → Type 0
-Distinct [] = Unit {0}
-Distinct (x ∷ xs) = (List·Memᴰ x xs → ⊥) × Distinct xs

@@ -8,9 +8,10 @@ ghost use Prim.Native.Nat.{_*_, _≤_, _<_};
 ghost use lib.ListN.{length, getD, take};
 ghost use Rattle.crc.specs.Home.{homeOf};
 ghost use Rattle.table.specs.Cells.{cellAfter, sought};
-ghost use Rattle.table.specs.Sound.{Open, Sound};
-ghost use Rattle.table.specs.Links.{walk, Listed, Keyed};
-ghost use Rattle.table.specs.Acts.{Slotted, Holding, Live, Removed, Rebuilt, Decides, inserted, between, cleared, tallied, counts, standing, allStanding};
+ghost use Rattle.table.specs.Sound.{Gapped, Sound};
+ghost use Rattle.head.specs.Walks.{walk};
+ghost use Rattle.table.specs.Links.{Listed, Keyed};
+ghost use Rattle.table.specs.Acts.{Slotted, Holding, Live, TakenOut, Rebuilt, Decides, inserted, between, cleared, tallied, counts, standing, allStanding};
 
 // What a search finds: the slot that has the code and its cell, or the empty cell that ended it. `count` is how many cells were read, that
 // one included.
@@ -48,7 +49,7 @@ fn after(cell: usize, m: usize) -> usize
 
 // Reads cells from the home of the code on until a slot with the code or an empty cell ends the search.
 pub fn look(cells: &[u32], codes: &[u64], n: usize, code: Code) -> Search
-    requires { ⌜ Open (2 * n) (now cells) (now codes) ⌝ }
+    requires { ⌜ Gapped (2 * n) (now cells) (now codes) ⌝ }
     ensures { λ r. ⌜ r ≡ sought (homeOf n) (2 * n) (now (cells .entry)) (now (codes .entry)) (code .0) ⌝ }
 {
     let m = 2 * n;
@@ -103,7 +104,7 @@ fn on_way(f: usize, j: usize, t: usize) -> bool
 // Takes the slot in a cell out of the table, and shifts back what follows, so that no dead cell is left.
 pub fn remove(cells: &mut [u32], codes: &[u64], n: usize, cell: usize)
     requires { ⌜ Holding (homeOf n) (2 * n) (now cells) (now codes) cell ⌝ }
-    ensures { λ _. ⌜ Removed (homeOf n) (2 * n) (now (codes .entry)) (getD (now (cells .entry)) cell 0) (now (cells .entry)) (now (cells .exit)) ⌝ }
+    ensures { λ _. ⌜ TakenOut (homeOf n) (2 * n) (now (codes .entry)) (getD (now (cells .entry)) cell 0) (now (cells .entry)) (now (cells .exit)) ⌝ }
 {
     let m = 2 * n;
     // The hole keeps its old number until the end, so that the same cells stay empty on the way.
@@ -132,7 +133,7 @@ pub fn remove(cells: &mut [u32], codes: &[u64], n: usize, cell: usize)
 // Takes a live slot out of the table, wherever it stands.
 pub fn remove_slot(cells: &mut [u32], codes: &[u64], n: usize, slot: Slot)
     requires { ⌜ Live (homeOf n) (2 * n) (now cells) (now codes) (slot .0) ⌝ }
-    ensures { λ _. ⌜ Removed (homeOf n) (2 * n) (now (codes .entry)) (slot .0) (now (cells .entry)) (now (cells .exit)) ⌝ }
+    ensures { λ _. ⌜ TakenOut (homeOf n) (2 * n) (now (codes .entry)) (slot .0) (now (cells .entry)) (now (cells .exit)) ⌝ }
 {
     let s = wide(slot.0);
     let code = codes[s];
@@ -228,7 +229,7 @@ pub fn stands(cells: &[u32], codes: &[u64], n: usize, slot: Slot) -> bool
 
 // Does each slot that the links walk stand?
 fn all_stand(cells: &[u32], codes: &[u64], next: &[u32], n: usize, front: Slot, live: u32) -> bool
-    requires { ⌜ Open (2 * n) (now cells) (now codes) ⌝ }
+    requires { ⌜ Gapped (2 * n) (now cells) (now codes) ⌝ }
     requires { ⌜ Listed n (now cells) (now codes) (now next) (walk (now next) (front .0) live) ⌝ }
     ensures { λ r. ⌜ r ≡ allStanding (homeOf n) (2 * n) (now (cells .entry)) (now (codes .entry)) (walk (now (next .entry)) (front .0) live) ⌝ }
 {

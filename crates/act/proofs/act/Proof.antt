@@ -20,58 +20,58 @@ enum-known-plan : tie.Need-enum-known-plan
 enum-known-plan c = search needs
 
 move-front-requires : tie.Need-move-front-requires
-move-front-requires c κs = raise-room (needed _ (c .before .before .before .plan .given .1) refl (c .before .before .before .before .before .before .before .before .before .before .before .before .before .pre))
+move-front-requires c κs = raise-room (needed _ (c .before .before .before .plan .given .1) (c .before .before .before .before .before .before .before .before .before .before .before .before .before .pre))
 
 enum-known-plan-2 : tie.Need-enum-known-plan-2
 enum-known-plan-2 c = search needs
 
 set-value-requires : tie.Need-set-value-requires
-set-value-requires c κs = set-room (needed _ (c .before .before .plan2 .given .1) refl (c .before .before .before .before .before .before .before .before .before .before .before .before .pre))
+set-value-requires c κs = set-room (needed _ (c .before .before .plan2 .given .1) (c .before .before .before .before .before .before .before .before .before .before .before .before .pre))
 
 enum-known-plan-3 : tie.Need-enum-known-plan-3
 enum-known-plan-3 c = search needs
 
 set-value-requires-2 : tie.Need-set-value-requires-2
-set-value-requires-2 c κs = renew-value (needed _ (c .before .before .plan3 .given .1) refl (c .before .before .before .before .before .before .before .before .before .before .before .before .pre))
+set-value-requires-2 c κs = renew-value (needed _ (c .before .before .plan3 .given .1) (c .before .before .before .before .before .before .before .before .before .before .before .before .pre))
 
 move-front-requires-2 : tie.Need-move-front-requires-2
-move-front-requires-2 c κs = renew-room (needed _ (c .before .before .before .before .before .before .before .plan3 .given .1) refl (c .before .before .before .before .before .before .before .before .before .before .before .before .before .before .before .before .before .pre))
+move-front-requires-2 c κs = renew-room (needed _ (c .before .before .before .before .before .before .before .plan3 .given .1) (c .before .before .before .before .before .before .before .before .before .before .before .before .before .before .before .before .before .pre))
 
 enum-known-plan-4 : tie.Need-enum-known-plan-4
 enum-known-plan-4 c = search needs
 
 remove-requires : tie.Need-remove-requires
-remove-requires c κs = drop-occupied (needed _ (c .before .before .before .before .before .before .before .before .before .plan4 .given .1) refl (c .before .before .before .before .before .before .before .before .before .before .before .before .before .before .before .before .before .before .before .pre))
+remove-requires c κs = drop-occupied (needed _ (c .before .before .before .before .before .before .before .before .before .plan4 .given .1) (c .before .before .before .before .before .before .before .before .before .before .before .before .before .before .before .before .before .before .before .pre))
 
 enum-known-plan-5 : tie.Need-enum-known-plan-5
 enum-known-plan-5 c = search needs
 
 place-requires : tie.Need-place-requires
-place-requires c κs = needed _ (c .before .before .before .before .before .before .before .before .before .plan5 .given .1) refl (c .before .before .before .before .before .before .before .before .before .before .before .before .before .before .before .before .before .before .before .pre)
+place-requires c κs = needed _ (c .before .before .before .before .before .before .before .before .before .plan5 .given .1) (c .before .before .before .before .before .before .before .before .before .before .before .before .before .before .before .before .before .before .before .pre)
 
 enum-known-plan-6 : tie.Need-enum-known-plan-6
 enum-known-plan-6 c = search needs
 
 replace-requires : tie.Need-replace-requires
-replace-requires c κs = needed _ (c .before .before .before .before .before .before .before .before .before .plan6 .given .1) refl (c .before .before .before .before .before .before .before .before .before .before .before .before .before .before .before .before .before .before .before .pre)
+replace-requires c κs = needed _ (c .before .before .before .before .before .before .before .before .before .plan6 .given .1) (c .before .before .before .before .before .before .before .before .before .before .before .before .before .before .before .before .before .before .before .pre)
 
 enum-known-plan-7 : tie.Need-enum-known-plan-7
 enum-known-plan-7 c = search needs
 
 fit-requires : tie.Need-fit-requires
-fit-requires c κs = needed _ (c .before .before .before .before .before .before .before .before .before .plan7 .given .1) refl (c .before .before .before .before .before .before .before .before .before .before .before .before .before .before .before .before .before .before .before .pre)
+fit-requires c κs = needed _ (c .before .before .before .before .before .before .before .before .before .plan7 .given .1) (c .before .before .before .before .before .before .before .before .before .before .before .before .before .before .before .before .before .before .before .pre)
 
 enum-known-plan-8 : tie.Need-enum-known-plan-8
 enum-known-plan-8 c = search needs
 
 sweep-requires : tie.Need-sweep-requires
-sweep-requires c κs = sweep-whole (needed _ (c .before .before .before .before .before .before .before .before .before .plan8 .given .1) refl (c .before .before .before .before .before .before .before .before .before .before .before .before .before .before .before .before .before .before .before .pre))
+sweep-requires c κs = sweep-whole (needed _ (c .before .before .before .before .before .before .before .before .before .plan8 .given .1) (c .before .before .before .before .before .before .before .before .before .before .before .before .before .before .before .before .before .before .before .pre))
 
 enum-told-4 : tie.Need-enum-told-4
 enum-told-4 c = search needs
 
 empty-requires : tie.Need-empty-requires
-empty-requires c κs = clear-spacious (needed _ (c .before .before .before .before .before .before .before .before .enum-told4 .given .1) refl (c .before .before .before .before .before .before .before .before .before .before .before .before .before .before .before .before .before .before .pre))
+empty-requires c κs = clear-spacious (needed _ (c .before .before .before .before .before .before .before .before .enum-told4 .given .1) (c .before .before .before .before .before .before .before .before .before .before .before .before .before .before .before .before .before .before .pre))
 
 returns : tie.Need-returns
 returns c = acted-as (c .enum-told .given .1) (stayed _ (λ order. refl))
@@ -95,7 +95,7 @@ same-length-3 : tie.Need-same-length-3
 same-length-3 c = c .before .before .set-value .kept .0
 
 returns-5 : tie.Need-returns-5
-returns-5 c = acted-as (c .before .before .before .before .before .plan2 .given .1) (set-acted (needed _ (c .before .before .before .before .before .plan2 .given .1) refl (c .before .before .before .before .before .before .before .before .before .before .before .before .before .before .before .pre)) (c .before .before .set-value .ensures))
+returns-5 c = acted-as (c .before .before .before .before .before .plan2 .given .1) (set-acted (needed _ (c .before .before .before .before .before .plan2 .given .1) (c .before .before .before .before .before .before .before .before .before .before .before .before .before .before .before .pre)) (c .before .before .set-value .ensures))
 
 same-length-4 : tie.Need-same-length-4
 same-length-4 c = c .before .before .before .before .before .before .before .before .before .set-value2 .kept .0
@@ -107,7 +107,7 @@ same-length-6 : tie.Need-same-length-6
 same-length-6 c = c .before .before .before .before .move-front2 .kept .1 .1 .0
 
 returns-6 : tie.Need-returns-6
-returns-6 c = acted-as (c .before .before .before .before .before .before .before .before .before .before .before .before .plan3 .given .1) (renew-acted (needed _ (c .before .before .before .before .before .before .before .before .before .before .before .before .plan3 .given .1) refl (c .before .before .before .before .before .before .before .before .before .before .before .before .before .before .before .before .before .before .before .before .before .before .pre)) (c .before .before .before .before .before .before .before .before .before .set-value2 .ensures) (c .before .before .before .before .move-front2 .ensures))
+returns-6 c = acted-as (c .before .before .before .before .before .before .before .before .before .before .before .before .plan3 .given .1) (renew-acted (needed _ (c .before .before .before .before .before .before .before .before .before .before .before .before .plan3 .given .1) (c .before .before .before .before .before .before .before .before .before .before .before .before .before .before .before .before .before .before .before .before .before .before .pre)) (c .before .before .before .before .before .before .before .before .before .set-value2 .ensures) (c .before .before .before .before .move-front2 .ensures))
 
 same-length-7 : tie.Need-same-length-7
 same-length-7 c = c .before .before .before .before .before .before .before .before .before .before .before .before .before .before .before .before .remove .kept .1 .0

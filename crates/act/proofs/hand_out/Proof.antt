@@ -28,37 +28,37 @@ enum-told-7 : tie.Need-enum-told-7
 enum-told-7 c = search needs
 
 write-all-requires : tie.Need-write-all-requires
-write-all-requires c κs = all-offered (offered _ (c .before .before .before .before .enum-told7 .given .1) refl (c .before .before .before .before .before .before .before .before .before .before .before .before .before .before .before .before .pre))
+write-all-requires c κs = all-offered (offered _ (c .before .before .before .before .enum-told7 .given .1) (c .before .before .before .before .before .before .before .before .before .before .before .before .before .before .before .before .pre))
 
 enum-told-8 : tie.Need-enum-told-8
 enum-told-8 c = search needs
 
 write-all-back-requires : tie.Need-write-all-back-requires
-write-all-back-requires c κs = back-offered (offered _ (c .before .before .before .before .enum-told8 .given .1) refl (c .before .before .before .before .before .before .before .before .before .before .before .before .before .before .before .before .pre))
+write-all-back-requires c κs = back-offered (offered _ (c .before .before .before .before .enum-told8 .given .1) (c .before .before .before .before .before .before .before .before .before .before .before .before .before .before .before .before .pre))
 
 enum-known-plan : tie.Need-enum-known-plan
 enum-known-plan c = search needs
 
 write-oldest-requires : tie.Need-write-oldest-requires
-write-oldest-requires c κs = place-offered (offered _ (c .before .before .before .before .before .plan .given .1) refl (c .before .before .before .before .before .before .before .before .before .before .before .before .before .before .before .before .before .pre))
+write-oldest-requires c κs = place-offered (offered _ (c .before .before .before .before .before .plan .given .1) (c .before .before .before .before .before .before .before .before .before .before .before .before .before .before .before .before .before .pre))
 
 enum-known-plan-2 : tie.Need-enum-known-plan-2
 enum-known-plan-2 c = search needs
 
 write-oldest-requires-2 : tie.Need-write-oldest-requires-2
-write-oldest-requires-2 c κs = replace-offered (offered _ (c .before .before .before .before .before .plan2 .given .1) refl (c .before .before .before .before .before .before .before .before .before .before .before .before .before .before .before .before .before .pre))
+write-oldest-requires-2 c κs = replace-offered (offered _ (c .before .before .before .before .before .plan2 .given .1) (c .before .before .before .before .before .before .before .before .before .before .before .before .before .before .before .before .before .pre))
 
 enum-known-plan-3 : tie.Need-enum-known-plan-3
 enum-known-plan-3 c = search needs
 
 write-oldest-requires-3 : tie.Need-write-oldest-requires-3
-write-oldest-requires-3 c κs = fit-offered (offered _ (c .before .before .before .before .before .plan3 .given .1) refl (c .before .before .before .before .before .before .before .before .before .before .before .before .before .before .before .before .before .pre))
+write-oldest-requires-3 c κs = fit-offered (offered _ (c .before .before .before .before .before .plan3 .given .1) (c .before .before .before .before .before .before .before .before .before .before .before .before .before .before .before .before .before .pre))
 
 enum-known-plan-4 : tie.Need-enum-known-plan-4
 enum-known-plan-4 c = search needs
 
 write-removed-requires : tie.Need-write-removed-requires
-write-removed-requires c κs = sweep-offered (offered _ (c .before .before .before .before .before .plan4 .given .1) refl (c .before .before .before .before .before .before .before .before .before .before .before .before .before .before .before .before .before .pre))
+write-removed-requires c κs = sweep-offered (offered _ (c .before .before .before .before .before .plan4 .given .1) (c .before .before .before .before .before .before .before .before .before .before .before .before .before .before .before .before .before .pre))
 
 returns : tie.Need-returns
 returns c = no-rows _ (c .enum-told .given .1) (λ k. refl)

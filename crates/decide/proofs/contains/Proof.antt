@@ -1,15 +1,9 @@
 -- `decide::contains` meets its contract.
 -- Assumes nothing.
-use Rattle.decide.proofs.Finding.{open-coded, contains-none, contains-some}
+use Rattle.decide.proofs.Finding.{contains-none, contains-some}
 use borrow.Author.Needs.{needs}
 use Rattle.decide.proofs.contains.Statement.{statement}
 use Rattle.decide.proofs.contains.Tie as tie
-
-cast-n : tie.Need-cast-n
-cast-n c = search needs
-
-look-requires : tie.Need-look-requires
-look-requires c κs = open-coded (c .before .before .before .pre)
 
 enum-told : tie.Need-enum-told
 enum-told c = search needs
@@ -21,23 +15,14 @@ say-requires : tie.Need-say-requires
 say-requires c κs = search needs
 
 returns : tie.Need-returns
-returns c = contains-none (c .before .before .before .before .before .before .before .args .code .0) (c .before .before .before .look .ensures) (c .before .enum-told2 .given .1) (c .say .ensures)
+returns c = λ h values code lent. contains-none lent (c .before .enum-told2 .given .1) (c .say .ensures)
 
 say-requires-2 : tie.Need-say-requires-2
 say-requires-2 c κs = search needs
 
 returns-2 : tie.Need-returns-2
-returns-2 c = contains-some (c .before .before .before .before .before .before .before .args .code .0) (c .before .before .before .look .ensures) (c .before .enum-told .given .1) (c .say2 .ensures)
+returns-2 c = λ h values code lent. contains-some lent (c .before .enum-told .given .1) (c .say2 .ensures)
 
 pub contains-spec : {M : Type 1} → statement M
 contains-spec =
-    tie.close
-    (tie.spec
-    cast-n
-    look-requires
-    enum-told
-    enum-told-2
-    say-requires
-    returns
-    say-requires-2
-    returns-2)
+    tie.close (tie.spec enum-told enum-told-2 say-requires returns say-requires-2 returns-2)

@@ -1,6 +1,5 @@
 -- `exports::put_opened` meets its contract.
 -- Assumes nothing.
-use mathlib.Core.Path.{refl}
 use borrow.Author.Needs.{needs}
 use Rattle.exports.proofs.Exchanged.{opened-began, opened-none}
 use Rattle.exports.proofs.put_opened.Statement.{statement}

@@ -3,7 +3,7 @@
 use lib.ListN.{length}
 use Rattle.store.specs.State.{fields}
 use Rattle.layout.specs.Heads.{headOf}
-use Rattle.layout.specs.Commands.{readerIn}
+use Rattle.layout.specs.Commands.{commandIn}
 use Rattle.exports.proofs.Exchanged.{reading}
 use Rattle.exports.proofs.weavestall_read.Statement.{statement}
 use Rattle.exports.proofs.weavestall_read.Tie as tie
@@ -14,10 +14,10 @@ at-put-answer c = c .before .before
 abbrev at-tell : tie.After-put-answer → tie.After-tell
 at-tell c = c .before .before .before .before .before .before .before .before .before .before
 
-abbrev at-reader-at : tie.After-tell → tie.After-reader-at
-at-reader-at c = c .before .before .before .before .before
+abbrev at-command-at : tie.After-tell → tie.After-command-at
+at-command-at c = c .before .before .before .before .before
 
-abbrev at-head-at : tie.After-reader-at → tie.After-head-at
+abbrev at-head-at : tie.After-command-at → tie.After-head-at
 at-head-at c = c .before
 
 abbrev at-start : tie.After-head-at → tie.Start
@@ -26,8 +26,8 @@ at-start c = c .before .before .before .before .before .before .before .before .
 head-at-requires : tie.Need-head-at-requires
 head-at-requires c κs = tt
 
-reader-at-requires : tie.Need-reader-at-requires
-reader-at-requires c κs = tt
+command-at-requires : tie.Need-command-at-requires
+command-at-requires c κs = tt
 
 tell-requires : tie.Need-tell-requires
 tell-requires c κs = tt
@@ -54,15 +54,15 @@ returns : tie.Need-returns
 returns c =
     let at-a = at-put-answer c in
     let at-t = at-tell at-a in
-    let at-k = at-reader-at at-t in
+    let at-k = at-command-at at-t in
     let at-h = at-head-at at-k in
     let a = at-a .put-answer in
     let t = at-t .tell in
-    let k = at-k .reader-at in
+    let k = at-k .command-at in
     let h = at-h .head-at in
     let s = at-start at-h .args in
     reading
-    (readerIn (s .command .now))
+    (commandIn (s .command .now))
     (k .result)
     (headOf (s .head .now) (length (s .answer .now)))
     (h .result)
@@ -89,7 +89,7 @@ weavestall-read-spec =
     tie.close
     (tie.spec
     head-at-requires
-    reader-at-requires
+    command-at-requires
     tell-requires
     put-answer-requires
     same-length

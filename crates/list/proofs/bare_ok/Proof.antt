@@ -11,10 +11,10 @@ use Rattle.list.proofs.bare_ok.Statement.{statement}
 use Rattle.list.proofs.bare_ok.Tie as tie
 
 abbrev Inv-loop : tie.InvT-loop
-Inv-loop next prev top n k₀ k = (k ≤ n) × (allFrom (n - top) top (bareOk next prev) ≡ allFrom (n - k) k (bareOk next prev))
+Inv-loop next prev n k₀ k = (k ≤ n) × (allFrom (n - k₀) k₀ (bareOk next prev) ≡ allFrom (n - k) k (bareOk next prev))
 
 abbrev μ-loop : tie.MeasureT-loop
-μ-loop next prev top n k₀ k = n - k
+μ-loop next prev n k₀ k = n - k
 
 loop-holds : tie.Need-loop-holds Inv-loop μ-loop
 loop-holds c = (search needs, refl)

@@ -7,6 +7,9 @@ use Rattle.list.specs.Inspect.{cellOk}
 use Rattle.list.proofs.cell_ok.Statement.{statement}
 use Rattle.list.proofs.cell_ok.Tie as tie
 
+cast-s : tie.Need-cast-s
+cast-s c = search needs
+
 mul-s : tie.Need-mul-s
 mul-s c = search needs
 
@@ -30,4 +33,4 @@ returns-3 c = simp (le-ltb _ _ (c .if1 .left))
 
 pub cell-ok-spec : {M : Type 1} → statement M
 cell-ok-spec =
-    tie.close (tie.spec mul-s shared-slice-read-s links-are-requires returns returns-2 returns-3)
+    tie.close (tie.spec cast-s mul-s shared-slice-read-s links-are-requires returns returns-2 returns-3)

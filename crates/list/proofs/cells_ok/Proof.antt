@@ -11,7 +11,7 @@ use Rattle.list.proofs.cells_ok.Statement.{statement}
 use Rattle.list.proofs.cells_ok.Tie as tie
 
 abbrev Inv-loop : tie.InvT-loop
-Inv-loop next prev stack depth top n k₀ k = (k ≤ n) × (allFrom n 0 (cellOk next prev stack depth top) ≡ allFrom (n - k) k (cellOk next prev stack depth top))
+Inv-loop next prev stack depth top n k₀ k = (k ≤ n) × (allFrom n 0 (cellOk next prev stack (depth .0) (top .0)) ≡ allFrom (n - k) k (cellOk next prev stack (depth .0) (top .0)))
 
 abbrev μ-loop : tie.MeasureT-loop
 μ-loop next prev stack depth top n k₀ k = n - k

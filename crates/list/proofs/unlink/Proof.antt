@@ -5,11 +5,11 @@ use Rattle.list.proofs.Unlinking.{unlinked}
 use Rattle.list.proofs.unlink.Statement.{statement}
 use Rattle.list.proofs.unlink.Tie as tie
 
-at-requires : tie.Need-at-requires
-at-requires c κs = search needs
+ahead-requires : tie.Need-ahead-requires
+ahead-requires c κs = search needs
 
-at-requires-2 : tie.Need-at-requires-2
-at-requires-2 c κs = search needs
+after-requires : tie.Need-after-requires
+after-requires c κs = search needs
 
 put-requires : tie.Need-put-requires
 put-requires c κs = search needs
@@ -34,14 +34,14 @@ returns c =
     let c4 = c .before .before .before .before in
     let c8 = c4 .before .before .before .before in
     let c12 = c8 .before .before .before .before in
-    unlinked _ _ _ _ _ _ _ _ _ _ (c12 .at .ensures) (c8 .before .before .at2 .ensures) (c8 .put .ensures) (c4 .put2 .ensures) (c .before .choose .ensures) (c .choose2 .ensures)
+    unlinked _ _ _ _ _ _ _ _ _ _ (c12 .ahead .ensures) (c8 .before .before .after .ensures) (c8 .put .ensures) (c4 .put2 .ensures) (c .before .choose .ensures) (c .choose2 .ensures)
 
 pub unlink-spec : {M : Type 1} → statement M
 unlink-spec =
     tie.close
     (tie.spec
-    at-requires
-    at-requires-2
+    ahead-requires
+    after-requires
     put-requires
     put-requires-2
     choose-requires

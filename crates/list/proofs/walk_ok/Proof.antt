@@ -12,10 +12,10 @@ use Rattle.list.proofs.walk_ok.Statement.{statement}
 use Rattle.list.proofs.walk_ok.Tie as tie
 
 abbrev Inv-loop : tie.InvT-loop
-Inv-loop next prev top back live front left₀ last₀ cur₀ left last cur = (left ≤ live) × (walkOk next prev top back live noneMark front ≡ walkOk next prev top back left last cur)
+Inv-loop next prev live t b left₀ last₀ cur₀ left last cur = (left ≤ live) × (walkOk next prev t b live noneMark cur₀ ≡ walkOk next prev t b left last cur)
 
 abbrev μ-loop : tie.MeasureT-loop
-μ-loop next prev top back live front left₀ last₀ cur₀ left last cur = left
+μ-loop next prev live t b left₀ last₀ cur₀ left last cur = left
 
 loop-holds : tie.Need-loop-holds Inv-loop μ-loop
 loop-holds c = (search needs, refl)

@@ -14,11 +14,11 @@ add-weight c = search needs
 push-front-requires : tie.Need-push-front-requires
 push-front-requires c κs = admits-open (c .before .before .before .before .before .before .before .before .before .before .before .before .before .before .pre)
 
-write-requires : tie.Need-write-requires
-write-requires c κs = admits-writable (c .before .before .before .before .before .before .before .before .before .before .before .before .before .before .before .before .before .before .before .before .before .before .before .before .before .before .pre) _ _ _ _ (c .before .before .before .before .before .before .before .before .before .before .before .push-front .ensures)
+set-row-requires : tie.Need-set-row-requires
+set-row-requires c κs = admits-writable (c .before .before .before .before .before .before .before .before .before .before .before .before .before .before .before .before .before .before .before .before .before .before .before .before .before .before .pre) _ _ _ _ (c .before .before .before .before .before .before .before .before .before .before .before .push-front .ensures)
 
 insert-requires : tie.Need-insert-requires
-insert-requires c κs = admits-slotted (c .before .before .before .before .before .before .before .before .before .before .before .before .before .before .before .before .before .before .before .before .before .before .before .before .before .before .before .before .before .before .before .before .before .before .before .before .before .pre) _ _ _ _ (c .before .before .before .before .before .before .before .before .before .before .before .before .before .before .before .before .before .before .before .before .before .before .push-front .ensures) _ (c .before .before .before .before .before .before .before .before .before .before .write .ensures)
+insert-requires c κs = admits-slotted (c .before .before .before .before .before .before .before .before .before .before .before .before .before .before .before .before .before .before .before .before .before .before .before .before .before .before .before .before .before .before .before .before .before .before .before .before .before .pre) _ _ _ _ (c .before .before .before .before .before .before .before .before .before .before .before .before .before .before .before .before .before .before .before .before .before .before .push-front .ensures) _ (c .before .before .before .before .before .before .before .before .before .before .set-row .ensures)
 
 with-weight-requires : tie.Need-with-weight-requires
 with-weight-requires c κs = search needs
@@ -50,7 +50,7 @@ same-length-8 c = search needs
 returns : tie.Need-returns
 returns c =
     rw (c .with-weight .ensures)
-    (added-ok (c .before .before .before .before .before .before .before .before .before .before .before .before .before .before .before .before .before .before .before .before .before .before .before .before .before .before .before .before .before .before .before .before .before .before .before .before .before .before .before .before .before .before .pre) _ _ _ _ (c .before .before .before .before .before .before .before .before .before .before .before .before .before .before .before .before .before .before .before .before .before .before .before .before .before .before .before .push-front .ensures) _ _ (c .before .before .before .before .before .before .before .before .before .before .before .before .before .before .before .write .ensures) (c .before .before .before .before .insert .ensures))
+    (added-ok (c .before .before .before .before .before .before .before .before .before .before .before .before .before .before .before .before .before .before .before .before .before .before .before .before .before .before .before .before .before .before .before .before .before .before .before .before .before .before .before .before .before .before .pre) _ _ _ _ (c .before .before .before .before .before .before .before .before .before .before .before .before .before .before .before .before .before .before .before .before .before .before .before .before .before .before .before .push-front .ensures) _ _ (c .before .before .before .before .before .before .before .before .before .before .before .before .before .before .before .set-row .ensures) (c .before .before .before .before .insert .ensures))
 
 pub add-spec : {M : Type 1} → statement M
 add-spec =
@@ -59,7 +59,7 @@ add-spec =
     cast-n
     add-weight
     push-front-requires
-    write-requires
+    set-row-requires
     insert-requires
     with-weight-requires
     same-length

@@ -22,8 +22,8 @@ slice-read-w c = occupied-writable (c .before .before .before .before .before .b
 remove-slot-requires : tie.Need-remove-slot-requires
 remove-slot-requires c κs = occupied-live (c .before .before .before .before .before .before .before .before .before .before .before .before .before .pre)
 
-write-requires : tie.Need-write-requires
-write-requires c κs = occupied-writable (c .before .before .before .before .before .before .before .before .before .before .before .before .before .before .before .before .before .before .before .before .pre)
+set-row-requires : tie.Need-set-row-requires
+set-row-requires c κs = occupied-writable (c .before .before .before .before .before .before .before .before .before .before .before .before .before .before .before .before .before .before .before .before .pre)
 
 remove-requires : tie.Need-remove-requires
 remove-requires c κs = occupied-held (c .before .before .before .before .before .before .before .before .before .before .before .before .before .before .before .before .before .before .before .before .before .before .before .before .before .before .before .before .before .before .before .before .pre)
@@ -35,13 +35,13 @@ with-weight-requires : tie.Need-with-weight-requires
 with-weight-requires c κs = search needs
 
 same-length : tie.Need-same-length
-same-length c = c .before .before .before .before .before .before .before .before .before .before .before .before .before .before .before .before .before .before .before .before .write .kept .0
+same-length c = c .before .before .before .before .before .before .before .before .before .before .before .before .before .before .before .before .before .before .before .before .set-row .kept .0
 
 same-length-2 : tie.Need-same-length-2
-same-length-2 c = c .before .before .before .before .before .before .before .before .before .before .before .before .before .before .before .before .before .before .before .before .write .kept .1 .0
+same-length-2 c = c .before .before .before .before .before .before .before .before .before .before .before .before .before .before .before .before .before .before .before .before .set-row .kept .1 .0
 
 same-length-3 : tie.Need-same-length-3
-same-length-3 c = c .before .before .before .before .before .before .before .before .before .before .before .before .before .before .before .before .before .before .before .before .write .kept .1 .1 .0
+same-length-3 c = c .before .before .before .before .before .before .before .before .before .before .before .before .before .before .before .before .before .before .before .before .set-row .kept .1 .1 .0
 
 same-length-4 : tie.Need-same-length-4
 same-length-4 c = search needs
@@ -61,7 +61,7 @@ same-length-8 c = c .before .before .before .before .before .before .before .bef
 returns : tie.Need-returns
 returns c =
     rw (c .with-weight .ensures)
-    (dropped-ok (c .before .before .before .before .before .before .before .before .before .before .before .before .before .before .before .before .before .before .before .before .before .before .before .before .before .before .before .before .before .before .before .before .before .before .before .before .before .before .before .before .before .pre) _ _ _ _ _ _ _ refl (c .before .before .before .before .before .before .before .before .before .before .before .before .before .before .before .before .before .before .before .before .before .before .before .before .before .before .before .remove-slot .ensures) (c .before .before .before .before .before .before .before .before .before .before .before .before .before .before .before .before .before .before .before .before .write .ensures) (c .before .before .before .before .before .before .before .before .remove .ensures))
+    (dropped-ok (c .before .before .before .before .before .before .before .before .before .before .before .before .before .before .before .before .before .before .before .before .before .before .before .before .before .before .before .before .before .before .before .before .before .before .before .before .before .before .before .before .before .pre) _ _ _ _ _ _ _ refl (c .before .before .before .before .before .before .before .before .before .before .before .before .before .before .before .before .before .before .before .before .before .before .before .before .before .before .before .remove-slot .ensures) (c .before .before .before .before .before .before .before .before .before .before .before .before .before .before .before .before .before .before .before .before .set-row .ensures) (c .before .before .before .before .before .before .before .before .remove .ensures))
 
 pub remove-spec : {M : Type 1} → statement M
 remove-spec =
@@ -72,7 +72,7 @@ remove-spec =
     mul-w
     slice-read-w
     remove-slot-requires
-    write-requires
+    set-row-requires
     remove-requires
     sub-left
     with-weight-requires

@@ -6,7 +6,7 @@ use native.Mathlib.Omega.{arith}
 use borrow.Author.Tests.{not-true, not-false}
 use lib.ListN.{length}
 use Rattle.crc.specs.Home.{homeOf}
-use Rattle.table.specs.Links.{walk}
+use Rattle.head.specs.Walks.{walk}
 use Rattle.table.specs.Acts.{allStanding}
 use Rattle.table.proofs.Checked.{Asking, ask-start, ask-end, ask-coded, ask-no, ask-on}
 use Rattle.table.proofs.all_stand.Statement.{statement}

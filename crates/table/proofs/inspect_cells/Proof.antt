@@ -7,7 +7,7 @@ use borrow.Author.Needs.{needs}
 use borrow.Author.Tests.{not-true, not-false}
 use Rattle.crc.specs.Home.{homeOf}
 use Rattle.crc.proofs.Homes.{home-lt}
-use Rattle.table.proofs.Members.{walk-length}
+use Rattle.head.proofs.Walking.{walk-length}
 use Rattle.table.proofs.Checked.{tallied-open, inspect-count, inspect-passed, inspect-rest}
 use Rattle.table.proofs.inspect_cells.Statement.{statement}
 use Rattle.table.proofs.inspect_cells.Tie as tie

@@ -6,7 +6,7 @@ use native.Mathlib.Omega.{arith}
 use lib.ListN.{length}
 use Rattle.crc.specs.Home.{homeOf}
 use Rattle.crc.proofs.Homes.{home-lt}
-use Rattle.table.specs.Links.{walk}
+use Rattle.head.specs.Walks.{walk}
 use Rattle.table.proofs.Renewal.{Renewing, renew-start, renew-end, renew-slotted, renew-linked, renew-on, renew-whole}
 use Rattle.table.proofs.rebuild.Statement.{statement}
 use Rattle.table.proofs.rebuild.Tie as tie

@@ -7,7 +7,7 @@ use borrow.Author.Needs.{needs}
 use lib.ListN.{length, getD}
 use Rattle.crc.specs.Home.{homeOf}
 use Rattle.crc.proofs.Homes.{home-lt}
-use Rattle.table.specs.Acts.{Holding, Removed}
+use Rattle.table.specs.Acts.{Holding, TakenOut}
 use Rattle.table.proofs.Found.{sound-open, seen}
 use Rattle.table.proofs.Answers.{live-full, live-holding, live-slotted}
 use Rattle.table.proofs.remove_slot.Statement.{statement}
@@ -67,7 +67,7 @@ returns-2 : tie.Need-returns-2
 returns-2 c =
     let r = c .before .before in
     let st = r .before .before .before .before .before .before .before .before .before .before .before in
-    subst (λ (s : ℕ). Removed (homeOf (st .args .n)) (2 * st .args .n) (st .args .codes .now) s (st .args .cells .now) (r .remove .last .0)) (held (r .before .before) .1) (r .remove .ensures)
+    subst (λ (s : ℕ). TakenOut (homeOf (st .args .n)) (2 * st .args .n) (st .args .codes .now) s (st .args .cells .now) (r .remove .last .0)) (held (r .before .before) .1) (r .remove .ensures)
 
 pub remove-slot-spec : {M : Type 1} → statement M
 remove-slot-spec =

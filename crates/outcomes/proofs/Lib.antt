@@ -1,0 +1,13 @@
+pub mod Decided
+pub mod Same
+pub mod Public
+pub mod Counted
+pub mod Untouched
+pub mod Sampled
+pub mod Ruled
+pub mod WrongReads
+pub mod WrongServes
+pub mod WrongCalls
+pub mod WrongOpens
+pub mod Refusals
+pub mod Cells

@@ -1,0 +1,4 @@
+pub mod Cut
+pub mod Room
+pub mod Playing
+pub mod Unopened
