@@ -1,4 +1,6 @@
 // A plan carried out: the rows that it hands out are written, then the lists change.
+#![tactic(auto)]
+
 ghost use Rattle.store.specs.State.{fields};
 ghost use Rattle.plan.specs.States.{state};
 ghost use Rattle.plan.specs.declared.Plan.TheVariants.{Place, Replace, Fit};

@@ -1,5 +1,7 @@
 // The calls of the cache, under clru's names. None asks anything of the numbers and lists it gets: where they describe no cache the answer is
 // refusal 2, and nothing is touched. A call that hands out rows takes four row lists, one a field, and counts the rows it wrote.
+#![tactic(auto)]
+
 ghost use Rattle.head.specs.declared.Command.TheVariants.{Back, BackMut, Capacity, Clear, Contains, Front, FrontMut, Get, GetMut, IsEmpty, IsFull, Len, ListBack, List as ListFront, Peek, PeekMut, Pop, PopBack, PopFront, Put, PutOrModify, PutWithWeight, Resize, Retain, TryPutOrModify, Weight};
 ghost use Rattle.head.specs.Fresh.{fresh_head};
 ghost use Rattle.store.specs.State.{fields};

@@ -1,5 +1,7 @@
 // Shrinking a list of slots: the entry at place i comes to slot i, in place. The links are written anew at the end, so until then
 // the stack's cells and prev serve as the memory that this takes.
+#![tactic(auto)]
+
 ghost use Rattle.std.specs.Prelude.{◌≡◌, ◌≤◌, ◌<◌, min, length, take};
 ghost use Rattle.head.specs.Bounds.{none_mark, most_slots};
 ghost use Rattle.head.specs.Walks.{walk};

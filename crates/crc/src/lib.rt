@@ -1,4 +1,6 @@
 // The CRC-32 of a code's eight bytes, by half-bytes, and the home cell that it gives.
+#![tactic(auto)]
+
 ghost use Rattle.std.specs.Prelude.{◌≡◌};
 ghost use Rattle.crc.specs.Crc.{shifts, with_byte, crc_of, bytes};
 ghost use Rattle.crc.specs.Home.{Cells, home_of};

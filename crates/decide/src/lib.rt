@@ -1,4 +1,6 @@
 // Every call decided before anything changes: its answer or refusal, and the plan. The state is only read.
+#![tactic(auto)]
+
 ghost use Rattle.std.specs.Prelude.{◌≡◌, ℕ, ◌+◌, ◌*◌, ◌≤◌, ◌&&◌, List, ◌==◌, nat_lt};
 ghost use Rattle.head.specs.Bounds.{most_capacity, capacity_ok};
 ghost use Rattle.model.specs.Desk.{kind_of};
@@ -19,7 +21,7 @@ use plan::{Decision, Plan};
 use table::Search;
 
 // What a call looks for in the table: a code, or nothing.
-#[derive(Drop)]
+#[derive(Clone, Copy)]
 enum Wanted {
     For(Code),
     Nothing,

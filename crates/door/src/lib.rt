@@ -1,4 +1,6 @@
 // Any call at the door: the state is inspected, and a call on a sound one is a step: it is decided, its rows are written, and the plan carried out.
+#![tactic(auto)]
+
 ghost use Rattle.std.specs.Prelude.{◌≡◌, min};
 ghost use Rattle.store.specs.State.{fields};
 ghost use Rattle.plan.specs.States.{state, Sound};
@@ -7,7 +9,7 @@ ghost use Rattle.door.specs.Served.{Serves, Calls, Reads, Tells, is_reader, is_t
 use head::{Answer, Command, Form, Head, Refusal};
 
 // The head that a call leaves, and its answer.
-#[derive(Drop)]
+#[derive(Clone, Copy)]
 pub struct Said {
     pub head: Head,
     pub answer: Answer,

@@ -1,4 +1,6 @@
 // What Rust and C link: opening, the calls that read, and every call, on lent lists of numbers. docs/LAYOUT.md has the layout of head, command and answer.
+#![tactic(auto)]
+
 ghost use Rattle.std.specs.Prelude.{◌≡◌, length};
 ghost use Rattle.store.specs.State.{fields};
 ghost use Rattle.plan.specs.States.{state};

@@ -1,4 +1,6 @@
 // Whether a head and its lent lists describe a cache: the test at the door, on any numbers, in lists of any length.
+#![tactic(auto)]
+
 ghost use Rattle.std.specs.Prelude.{◌≡◌, ◌-◌, ◌*◌, ◌≤◌, ◌<◌, [], ◌∷◌, length, get_or, take};
 ghost use Rattle.head.specs.Bounds.{none_mark, most_slots};
 ghost use Rattle.head.specs.Fields.{Reach};

@@ -1,4 +1,6 @@
 // Head, command and answer as lists of numbers, for callers in other languages: docs/LAYOUT.md has the tables.
+#![tactic(auto)]
+
 ghost use Rattle.std.specs.Prelude.{◌≡◌};
 ghost use Rattle.layout.specs.Heads.{narrowed, head_of, head_left};
 ghost use Rattle.layout.specs.Commands.{stamped, ruled, command_of, command_in};
@@ -208,7 +210,7 @@ pub fn command_at(list: &[u64]) -> Command
 }
 
 // An answer as the paper's numbers: the refusal's number or 0, a number for the kind of answer or 0, and the values, 0 where the answer has none.
-#[derive(Drop)]
+#[derive(Clone, Copy)]
 pub struct Numbers {
     pub refusal: u32,
     // 1 new, 2 was, 3 is, 4 now, 5 absent, 6 entry, 7 done, 8 count, 9 flag.

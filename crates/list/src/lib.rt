@@ -1,4 +1,6 @@
 // The recency list over slots: a head by value, and the links in lent lists of numbers.
+#![tactic(auto)]
+
 ghost use Rattle.std.specs.Prelude.{◌≡◌, ◌-◌, ◌≤◌, ◌<◌, length, get_or, replicate, drop, ◌++◌};
 ghost use Rattle.list.specs.Steps.{put_at, choice};
 ghost use Rattle.head.specs.Bounds.{none_mark};
@@ -9,7 +11,7 @@ ghost use Rattle.list.specs.Promises.{Room, Unlinked, Fronted, Stackable, Releas
 use head::{Head, Place, Slot};
 
 // A slot that was taken, and the head after.
-#[derive(Drop)]
+#[derive(Clone, Copy)]
 pub struct Taken {
     pub head: Head,
     pub slot: Slot,

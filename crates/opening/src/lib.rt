@@ -1,4 +1,6 @@
 // Opening a cache, in lists that may hold anything.
+#![tactic(auto)]
+
 ghost use Rattle.head.specs.Fresh.{fresh_head};
 ghost use Rattle.plan.specs.States.{state};
 ghost use Rattle.opening.specs.Begun.{Opens};
@@ -6,7 +8,7 @@ ghost use Rattle.opening.specs.Begun.{Opens};
 use head::{Head, Refusal};
 
 // What opening gives: the head of a cache that holds nothing, or the refusal.
-#[derive(Drop)]
+#[derive(Clone, Copy)]
 pub enum Opened {
     Cache(Head),
     No(Refusal),

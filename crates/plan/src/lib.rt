@@ -1,11 +1,13 @@
 // What is decided before anything changes: an answer, and a plan that says what to do and which rows to hand out.
+#![tactic(auto)]
+
 ghost use Rattle.std.specs.Prelude.{◌≡◌};
 ghost use Rattle.plan.specs.Plans.{said, denied};
 
 use head::{Answer, Refusal, Row, Rule, Slot};
 
 // What is done to a cache. Entries are named by their slots.
-#[derive(Drop)]
+#[derive(Clone, Copy)]
 pub enum Plan {
     Stay,
     // Nothing changes, and all entries are handed out, front to back or back to front.
@@ -30,7 +32,7 @@ pub enum Plan {
     Clear,
 }
 
-#[derive(Drop)]
+#[derive(Clone, Copy)]
 pub struct Decision {
     pub answer: Answer,
     pub plan: Plan,

@@ -1,4 +1,6 @@
 // Calls whose rows go to a list of records too: the row lists are cut to the records, the call is made, and its rows are copied.
+#![tactic(auto)]
+
 ghost use Rattle.std.specs.Prelude.{◌≡◌, min};
 ghost use Rattle.head.specs.Answers.{row_count};
 ghost use Rattle.store.specs.State.{fields};

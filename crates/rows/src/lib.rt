@@ -1,4 +1,6 @@
 // What deciding needs, on lists that are only read: how many must leave, and rows for the caller.
+#![tactic(auto)]
+
 ghost use Rattle.std.specs.Prelude.{◌≡◌, ◌+◌, ◌-◌, ◌<◌, not, length};
 ghost use Rattle.model.specs.Desk.{keeps as keeping};
 ghost use Rattle.model.specs.Codes.{one};

@@ -1,4 +1,6 @@
 // Whether a rule of `retain` keeps an entry.
+#![tactic(auto)]
+
 ghost use Rattle.std.specs.Prelude.{◌≡◌};
 ghost use Rattle.model.specs.Desk.{in_range, passes as passing, keeps as keeping};
 

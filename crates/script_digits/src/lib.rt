@@ -1,4 +1,6 @@
 // Numbers as decimal digits, in bytes.
+#![tactic(auto)]
+
 ghost use Rattle.std.specs.Prelude.{[], ◌∷◌, ◌≡◌, ◌%◌};
 ghost use Rattle.script_digits.specs.Decimal.{digit_byte, digits_of};
 ghost use Rattle.script_digits.specs.Laid.{Room, Laid};

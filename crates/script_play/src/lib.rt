@@ -1,4 +1,6 @@
 // The script program as a function: reads lines from a file, carries each out on one cache, and writes what it answers. docs/SCRIPT.md has the lines.
+#![tactic(auto)]
+
 ghost use Rattle.std.specs.Prelude.{◌≡◌, ◌≤◌, length};
 ghost use Rattle.head.specs.Fresh.{fresh_head};
 ghost use Rattle.store.specs.State.{fields};
@@ -33,7 +35,7 @@ fn next_line(written: bool, to: usize, n: usize) -> usize
 }
 
 // What a run leaves beside the lists: the head, and whether every answer was written.
-#[derive(Drop)]
+#[derive(Clone, Copy)]
 pub struct Left {
     pub head: Head,
     pub written: bool,

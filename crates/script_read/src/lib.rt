@@ -1,4 +1,6 @@
 // A line of the script to what it says.
+#![tactic(auto)]
+
 ghost use Rattle.std.specs.Prelude.{◌≡◌, ◌≤◌, length};
 ghost use Rattle.std.proofs.Math.Seq.{slice};
 ghost use Rattle.script_read.specs.Keywords.{same};
@@ -14,7 +16,7 @@ const WIDE: u64 = 18446744073709551615;
 const NARROW: u64 = 4294967295;
 
 // What a line says.
-#[derive(Drop)]
+#[derive(Clone, Copy)]
 pub enum Line {
     Open {
         kind: u32,
@@ -27,7 +29,7 @@ pub enum Line {
 }
 
 // What a word is as a number of 64 bits.
-#[derive(Drop)]
+#[derive(Clone, Copy)]
 pub enum Number {
     Value(u64),
     // A byte that is no digit, no digit at all, or a value past its width.
@@ -35,7 +37,7 @@ pub enum Number {
 }
 
 // The words behind a word, where each is a number.
-#[derive(Drop)]
+#[derive(Clone, Copy)]
 pub enum Numbers {
     Nought,
     One(u64),

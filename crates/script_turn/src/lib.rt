@@ -1,4 +1,6 @@
 // One line of the script, carried out on the lent lists.
+#![tactic(auto)]
+
 ghost use Rattle.std.specs.Prelude.{◌≡◌, min};
 ghost use Rattle.store.specs.State.{fields};
 ghost use Rattle.plan.specs.States.{state};
@@ -175,7 +177,7 @@ pub fn reply(
 }
 
 // What a line left: the head, the answer, and how much of the buffer its text takes.
-#[derive(Drop)]
+#[derive(Clone, Copy)]
 pub struct Turned {
     pub head: Head,
     pub answer: Answer,

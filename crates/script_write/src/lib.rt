@@ -1,4 +1,6 @@
 // An answer and its rows as lines, in bytes. Each function writes from a place on, and answers the place after what it wrote.
+#![tactic(auto)]
+
 ghost use Rattle.std.specs.Prelude.{cond, [], ◌∷◌, ◌+◌, ◌≤◌, length};
 ghost use Rattle.script_digits.specs.Laid.{Room, Laid};
 ghost use Rattle.script_write.specs.Lines.{field, numbered, now_line, row_word, row_line, entry_lines, closing_line, most_field, most_line};

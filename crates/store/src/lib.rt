@@ -1,4 +1,6 @@
 // The state as a whole: the entries' fields, the links and the table, and the few acts that change them together.
+#![tactic(auto)]
+
 ghost use Rattle.std.specs.Prelude.{◌≡◌, ◌+◌, ◌≤◌, ◌<◌, length, drop, set, replicate, ◌++◌};
 ghost use Rattle.store.specs.State.{fields, entry_in};
 ghost use Rattle.store.specs.Lengths.{long_enough};

@@ -1,4 +1,6 @@
 // The sweep: entries that a rule does not keep leave, front to back.
+#![tactic(auto)]
+
 ghost use Rattle.store.specs.State.{Whole, fields};
 ghost use Rattle.store.specs.Acts.{Occupied};
 ghost use Rattle.sweep.specs.Swept.{Judged, Swept};

@@ -1,5 +1,7 @@
 // The lookup table: 2n cells, each the number of a live slot or none. A slot stands at the home of its code or, where that is taken, in a
 // cell after it, around the end; no empty cell lies between.
+#![tactic(auto)]
+
 ghost use Rattle.std.specs.Prelude.{◌≡◌, ◌*◌, ◌≤◌, ◌<◌, length, get_or, take};
 ghost use Rattle.crc.specs.Home.{home_of};
 ghost use Rattle.table.specs.Cells.{cell_after, sought};
@@ -12,7 +14,7 @@ use head::{Code, Head, Slot};
 
 // What a search finds: the slot that has the code and its cell, or the empty cell that ended it. `count` is how many cells were read, that
 // one included.
-#[derive(Drop)]
+#[derive(Clone, Copy)]
 pub enum Search {
     Found {
         slot: Slot,
@@ -26,7 +28,7 @@ pub enum Search {
 }
 
 // How many cells are not empty, or that one of them holds a number which is no slot's.
-#[derive(Drop)]
+#[derive(Clone, Copy)]
 pub enum Tally {
     All(usize),
     Stray,

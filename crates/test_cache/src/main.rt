@@ -1,4 +1,6 @@
 // Plays the turns of crate `test_turns` at the doors, and writes a line for each: the call, what it said and handed out, and how the cache stands then.
+#![tactic(auto)]
+
 use door::Said;
 use head::{Answer, Command, Form, Head, Refusal, Row};
 use script_read::Line;

@@ -1,5 +1,7 @@
 // Drives a list of slots with its fields, and plain arrays beside it, through the same operations and changes of capacity,
 // compares every number of the two after each, and writes how many agreed.
+#![tactic(auto)]
+
 ghost use Rattle.std.specs.Prelude.{◌≡◌, true};
 ghost use Rattle.compact.specs.Compact.{fields₀, Resizable};
 
@@ -28,7 +30,7 @@ const EQUAL: u64 = 4;
 const GROW: u64 = 5;
 
 // The numbers of the entries, slot by slot.
-#[derive(Drop)]
+#[derive(Clone, Copy)]
 pub struct Fields {
     pub codes: [u64; 16],
     pub stamps: [u32; 16],
@@ -37,14 +39,14 @@ pub struct Fields {
 }
 
 // The list with its fields.
-#[derive(Drop)]
+#[derive(Clone, Copy)]
 pub struct Lists {
     pub links: Links,
     pub fields: Fields,
 }
 
 // What is carried from turn to turn. The capacity is the plain side's.
-#[derive(Drop)]
+#[derive(Clone, Copy)]
 struct World {
     lists: Lists,
     order: Order,
@@ -401,7 +403,7 @@ fn leaving(kind: u64, n: u64, q: u64, d: u64) -> u64 {
 }
 
 // A turn's operation, the place of the line that it is for, how many leave, and the capacity from then on.
-#[derive(Drop)]
+#[derive(Clone, Copy)]
 struct Plan {
     kind: u64,
     place: u64,

@@ -1,4 +1,6 @@
 // Runs the CRC on published and other vectors, whose values were made by another routine, and writes a line for each.
+#![tactic(auto)]
+
 use head::Code;
 use libc::STDOUT_FILENO;
 

@@ -1,4 +1,6 @@
 // Changes sound states number by number, and holds the library's inspection to a plain check of soundness that is written from the paper alone.
+#![tactic(auto)]
+
 use head::{Code, Head, Place, Slot};
 use test_kit::{at, less, more, narrow, one, pick, plus, say, set, shaken};
 
@@ -1422,7 +1424,7 @@ const BOTH_UNSOUND: u64 = 6;
 const DIFFER: u64 = 7;
 
 // Where the data of the next state start, the draw to go on from, and the counts.
-#[derive(Drop)]
+#[derive(Clone, Copy)]
 struct Tally {
     from: u64,
     seed: u64,
@@ -1589,7 +1591,7 @@ fn tried_two(s: &mut [u64], i: u64, a: u64, j: u64, b: u64, t: Tally) -> Tally {
 }
 
 // What two places become.
-#[derive(Drop)]
+#[derive(Clone, Copy)]
 struct Two {
     a: u64,
     b: u64,

@@ -1,4 +1,6 @@
 // The script program on inputs at the edges: calls before `open`, exactly 32,768 bytes, one more, empty lines, nothing at all.
+#![tactic(auto)]
+
 use libc::STDOUT_FILENO;
 
 // Plays a file of data/, under its name.

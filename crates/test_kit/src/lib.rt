@@ -1,4 +1,6 @@
 // What the programs that drive the layers share: reads and stores that stay inside, numbers that wrap, draws, and a line of output.
+#![tactic(auto)]
+
 use libc::STDOUT_FILENO;
 
 pub mod line;

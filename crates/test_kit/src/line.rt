@@ -7,7 +7,7 @@ const NONE: u64 = 4294967295;
 const UNUSED: u64 = 4294967294;
 
 // The slots in use, front first, and a mark for each; the pile of free slots, of which the last is taken first; and the first slot never used.
-#[derive(Drop)]
+#[derive(Clone, Copy)]
 pub struct Order {
     pub slots: [u64; 16],
     pub marks: [u64; 16],

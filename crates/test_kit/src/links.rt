@@ -4,7 +4,7 @@ use crate::{line, narrow};
 use head::{Head, Slot};
 
 // The list: its head and its links.
-#[derive(Drop)]
+#[derive(Clone, Copy)]
 pub struct Links {
     pub head: Head,
     pub next: [u32; 16],

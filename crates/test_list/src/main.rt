@@ -1,4 +1,6 @@
 // Drives the list and plain arrays through the same operations, compares the two after each, and writes how many agreed.
+#![tactic(auto)]
+
 use head::Head;
 use test_kit::line::Order;
 use test_kit::links::Links;
@@ -16,7 +18,7 @@ const EVICT: u64 = 3;
 const CLEAR: u64 = 4;
 
 // What is carried from turn to turn.
-#[derive(Drop)]
+#[derive(Clone, Copy)]
 struct World {
     links: Links,
     order: Order,
@@ -46,7 +48,7 @@ fn chosen(r: u64, q: u64, n: u64) -> u64 {
 }
 
 // A turn's operation, the place of the line that it is for, and how many leave where some are evicted.
-#[derive(Drop)]
+#[derive(Clone, Copy)]
 struct Plan {
     kind: u64,
     place: u64,

@@ -1,4 +1,6 @@
 // Makes calls that hand out rows, each twice on the same state, and writes the rows of both: from the four row lists, and from records.
+#![tactic(auto)]
+
 ghost use Rattle.store.specs.State.{fields};
 ghost use Rattle.plan.specs.States.{state};
 ghost use Rattle.test_records.specs.Eight.{Lists, ListsTold};
@@ -163,7 +165,7 @@ fn print_row(row: Row) {
 }
 
 // The four row lists.
-#[derive(Drop)]
+#[derive(Clone, Copy)]
 struct Rows {
     codes: [u64; 16],
     stamps: [u32; 16],
@@ -223,7 +225,7 @@ fn show(i: u32, answer: Answer, rows: Rows, list: [Row; 8]) {
 }
 
 // The cache that the calls are made on.
-#[derive(Drop)]
+#[derive(Clone, Copy)]
 struct State {
     head: Head,
     codes: [u64; 16],
@@ -237,7 +239,7 @@ struct State {
 }
 
 // What a call leaves, answers and hands out.
-#[derive(Drop)]
+#[derive(Clone, Copy)]
 struct Called {
     state: State,
     answer: Answer,

@@ -1,5 +1,7 @@
 // The replay: reads the recorded answers of the crate clru, carries out every recorded line by the public calls, and counts
 // where the text of the answer and the state after it are what was recorded. compare/README.md has the format.
+#![tactic(auto)]
+
 ghost use Rattle.std.specs.Prelude.{◌≤◌, ◌<◌, ◌≡◌, length};
 ghost use Rattle.store.specs.State.{fields};
 ghost use Rattle.test_replay.specs.Playing.{Plays};
@@ -8,7 +10,7 @@ use head::Head;
 use libc::{STDIN_FILENO, STDOUT_FILENO};
 
 // How many lines agreed, calls and openings apart, how many did not, and at how many the crate panics.
-#[derive(Drop)]
+#[derive(Clone, Copy)]
 pub struct Tally {
     pub calls: u32,
     pub openings: u32,

@@ -1,5 +1,7 @@
 // Drives a table of 16 slots with random acts, and holds it to plain scans of the links. The table's functions ask for a sound table, so
 // each act first has the proved tests say that it is.
+#![tactic(auto)]
+
 ghost use Rattle.std.specs.Prelude.{◌≡◌, true, ◌≤◌, ◌<◌, length};
 ghost use mathlib.Core.List.{Memᴰ};
 ghost use Rattle.head.specs.Walks.{walk};
@@ -104,7 +106,7 @@ fn scan(codes: &[u64], next: &[u32], front: u32, live: u32, code: u64) -> u32 {
 }
 
 // The table, and the links that it describes.
-#[derive(Drop)]
+#[derive(Clone, Copy)]
 struct Table {
     cells: [u32; 32],
     codes: [u64; 16],
@@ -171,7 +173,7 @@ fn searched(t: Table, code: u64) -> u64 {
 // ---- the acts: each on a table that is tested first
 
 // What an act came to, and the table that it left.
-#[derive(Drop)]
+#[derive(Clone, Copy)]
 struct Done {
     table: Table,
     what: u64,
@@ -408,7 +410,7 @@ fn act(t: Table, said: u64, code: u64, draw: u64) -> Done {
 // ---- the rounds
 
 // What is carried from round to round.
-#[derive(Drop)]
+#[derive(Clone, Copy)]
 struct Run {
     table: Table,
     seed: u64,

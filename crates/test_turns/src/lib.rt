@@ -1,4 +1,6 @@
 // A fixed list of turns over the public calls: what each asks, how it is asked, and how it is told.
+#![tactic(auto)]
+
 ghost use Rattle.std.specs.Prelude.{◌≤◌};
 
 use head::{Code, Command, Head, Place, Rule, Slot};
@@ -63,7 +65,7 @@ const RESIZE: u32 = 26;
 const ROWS: u32 = 13;
 
 // A call with its numbers: a code, a stamp, a value and a weight, or what the word has in their places.
-#[derive(Drop)]
+#[derive(Clone, Copy)]
 pub struct Turn {
     pub word: u32,
     pub a: u64,
