@@ -1,0 +1,10 @@
+-- `rules::in_range` meets its contract.
+-- Assumes nothing.
+use borrow.Author.Tests.{lt-leb, le-leb}
+use Rattle.rules.proofs.in_range.Goals as goal
+
+pub returns-then-x-low : goal.returns-then-x-low
+returns-then-x-low c = simp (lt-leb _ _ c.if-x-low.true)
+
+pub returns : goal.returns
+returns c = simp (le-leb _ _ c.if-x-low.false)
