@@ -1,0 +1,16 @@
+-- `list::bare_ok` meets its contract.
+-- Assumes nothing.
+use Prim.Native.Nat.{◌≤◌, ◌-◌}
+use mathlib.Core.Path.{◌≡◌, ◌∙◌, sym, refl}
+use native.Mathlib.Omega.{arith}
+use borrow.Author.Rules.{rules}
+use borrow.Author.Tests.{not-true, not-false}
+use Rattle.list.proofs.Tests.{all_fail, all_more, all_end}
+use Rattle.list.specs.Inspect.{all_from, bare_ok}
+use Rattle.list.proofs.bare_ok.Given as goal
+
+abbrev pub invariant-loop-k : goal.invariant-loop-k
+invariant-loop-k l = (l.k ≤ l.n) × (all_from (l.n - l.initial.k) l.initial.k (bare_ok l.next l.prev) ≡ all_from (l.n - l.k) l.k (bare_ok l.next l.prev))
+
+abbrev pub decreases-loop-k : goal.decreases-loop-k
+decreases-loop-k l = l.n - l.k

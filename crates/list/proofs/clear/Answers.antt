@@ -1,0 +1,8 @@
+-- `list::clear` meets its contract.
+-- Assumes nothing.
+use borrow.Author.Rules.{rules}
+use Rattle.list.proofs.Filling.{cleared}
+use Rattle.list.proofs.clear.Goals as goal
+
+pub returns : goal.returns
+returns c = cleared _ _ _ _ _ _ _ c.requires c.fill.ensures c.fill-2.ensures c.fill-3.ensures

@@ -1,0 +1,8 @@
+-- `list::link_front` meets its contract.
+-- Assumes nothing.
+use borrow.Author.Rules.{rules}
+use Rattle.list.proofs.Fronting.{fronted}
+use Rattle.list.proofs.link_front.Goals as goal
+
+pub returns : goal.returns
+returns c = fronted _ _ _ _ _ _ _ _ c.put.ensures c.put-2.ensures c.put-3.ensures c.choose-back.ensures
