@@ -45,7 +45,7 @@ def defined():
             signature = SIGNATURE.match(line)
             if signature:
                 within = False
-                goal = re.match(r"\s*(?:\([^)]*\) → )*(?:tie|[\w+-]+-lts|[\w+-]*lts)\.", signature.group(2))
+                goal = re.match(r"\s*(?:\([^)]*\) → )*(?:goal|tie|[\w+-]+-lts|[\w+-]*lts)\.", signature.group(2))
                 if not goal:
                     names.add(signature.group(1))
                 continue
@@ -54,10 +54,12 @@ def defined():
             field = FIELD.match(line)
             if within and field:
                 names.update([field.group(1)] + field.group(2).split())
-            # a section's lemmas stand indented
-            inner = re.match(r"^  (?:(?:unfoldable|abbrev|pub) )*([^\s(){},.;:]+)\s+: ", line)
-            if inner and not within:
-                names.add(inner.group(1))
+            # a section's lemmas stand indented: a signature, and below it an equation of the same name
+            inner = re.match(r"^(\s+)((?:(?:unfoldable|abbrev|pub) )*)([^\s(){},.;:]+)(?: \{[^}]*\})?\s+:(?:\s|$)", line)
+            if inner and not (within and field):
+                below = re.compile(re.escape(inner.group(1) + inner.group(3)) + r"(?: .*)?=")
+                if "pub" in inner.group(2) or any(below.match(later) for later in lines[at + 1 : at + 9]):
+                    names.add(inner.group(3))
     return names
 
 

@@ -16,7 +16,7 @@ use Rattle.model.specs.Perform.{Cache}
 use Rattle.rows.specs.Written.{Written}
 use Rattle.rows.specs.Answers.{Aged, WroteOldest, Sweepable, WroteRemoved, Listable, WroteAll, ListableBack, WroteBack}
 use Rattle.rows.proofs.Nothing.{none_written}
-use Rattle.rows.proofs.Callers.{backward, forward, aged, wrote_oldest, aged-but, wrote-but}
+use Rattle.rows.proofs.Callers.{backward, forward, aged, wrote_oldest, aged_but, wrote_but}
 use Rattle.plan.specs.declared.Plan.{Plan}
 use Rattle.plan.specs.declared.Plan.TheVariants.{List as ListFront, ListBack, Place, Replace, Fit, Sweep}
 use Rattle.plan.specs.Plans.{place_of, rows_of, Named}
@@ -43,25 +43,25 @@ module _ {h : Head} {f : Fields} {nx pv : List ℕ} {rows : Fields} where
         → HandedOut p h f nx pv rows rows'
     handed {p} q e w = subst (λ (x : Plan). HandedOut x h f nx pv rows rows') (sym e) (record { written = w })
 
-    pub all-handed : {p : Plan} → p ≡ ListFront → WroteAll h f nx rows rows' → HandedOut p h f nx pv rows rows'
-    all-handed e w = handed ListFront e (λ c n s. w.written c (forward s.described))
+    pub all_handed : {p : Plan} → p ≡ ListFront → WroteAll h f nx rows rows' → HandedOut p h f nx pv rows rows'
+    all_handed e w = handed ListFront e (λ c n s. w.written c (forward s.described))
 
-    pub back-handed : {p : Plan} → p ≡ ListBack → WroteBack h f pv rows rows' → HandedOut p h f nx pv rows rows'
-    back-handed e w = handed ListBack e (λ c n s. w.written c (backward s.described))
+    pub back_handed : {p : Plan} → p ≡ ListBack → WroteBack h f pv rows rows' → HandedOut p h f nx pv rows rows'
+    back_handed e w = handed ListBack e (λ c n s. w.written c (backward s.described))
 
-    pub place-handed : {p : Plan} {k : ℕ} {e : Row} → p ≡ Place k e → WroteOldest h f pv k none_mark rows rows' → HandedOut p h f nx pv rows rows'
-    place-handed {p} {k} {e} q w = handed (Place k e) q (λ c n s. wrote_oldest s.described n w)
+    pub place_handed : {p : Plan} {k : ℕ} {e : Row} → p ≡ Place k e → WroteOldest h f pv k none_mark rows rows' → HandedOut p h f nx pv rows rows'
+    place_handed {p} {k} {e} q w = handed (Place k e) q (λ c n s. wrote_oldest s.described n w)
 
-    pub replace-handed : {p : Plan} {s : Slot} {k : ℕ} {e : Row} → p ≡ Replace s k e → WroteOldest h f pv k s.0 rows rows' → HandedOut p h f nx pv rows rows'
-    replace-handed {p} {s} {k} {e} q w =
+    pub replace_handed : {p : Plan} {s : Slot} {k : ℕ} {e : Row} → p ≡ Replace s k e → WroteOldest h f pv k s.0 rows rows' → HandedOut p h f nx pv rows rows'
+    replace_handed {p} {s} {k} {e} q w =
         handed (Replace s k e) q
-        (λ c n d. wrote-but d.described (place_of s.0 c.slots.order) s.0 n.0 n.1 w)
+        (λ c n d. wrote_but d.described (place_of s.0 c.slots.order) s.0 n.0 n.1 w)
 
-    pub fit-handed : {p : Plan} {k n : ℕ} → p ≡ Fit k n → WroteOldest h f pv k none_mark rows rows' → HandedOut p h f nx pv rows rows'
-    fit-handed {p} {k} {n} q w = handed (Fit k n) q (λ c m s. wrote_oldest s.described m w)
+    pub fit_handed : {p : Plan} {k n : ℕ} → p ≡ Fit k n → WroteOldest h f pv k none_mark rows rows' → HandedOut p h f nx pv rows rows'
+    fit_handed {p} {k} {n} q w = handed (Fit k n) q (λ c m s. wrote_oldest s.described m w)
 
-    pub sweep-handed : {p : Plan} {q : Rule} → p ≡ Sweep q → WroteRemoved h f nx q rows rows' → HandedOut p h f nx pv rows rows'
-    sweep-handed {p} {q} e w = handed (Sweep q) e (λ c n s. w.written c (forward s.described))
+    pub sweep_handed : {p : Plan} {q : Rule} → p ≡ Sweep q → WroteRemoved h f nx q rows rows' → HandedOut p h f nx pv rows rows'
+    sweep_handed {p} {q} e w = handed (Sweep q) e (λ c n s. w.written c (forward s.described))
 
   -- ---- what the writing asks
 
@@ -81,7 +81,7 @@ module _ {h : Head} {f : Fields} {nx pv : List ℕ} {rows : Fields} where
   pub replace_offered : {s : Slot} {k : ℕ} {e : Row} → Offered (Replace s k e) h f nx pv rows → Aged h f pv k s.0 rows
   replace_offered {s} {k} o =
       let i : ℕ = place_of s.0 o.cache.slots.order in
-      aged-but o.seen.described i s.0 o.named.0 o.named.1
+      aged_but o.seen.described i s.0 o.named.0 o.named.1
       (rw (oldest_all k (without i o.cache.desk.entries) o.named.1) at o.room)
 
   pub fit_offered : {k n : ℕ} → Offered (Fit k n) h f nx pv rows → Aged h f pv k none_mark rows

@@ -42,8 +42,8 @@ module _ {h : Head} {f : Fields} {nx pv st cells : List ℕ} {k : ℕ} {e : Row}
 
   module _ {r : Head} {g : Fields} {nx' pv' st' cells' : List ℕ} (q : Shed h f nx pv st cells r g nx' pv' st' cells' k) where
     -- what is left takes the row
-    pub place-admits : Admits r g nx' pv' st' cells' e
-    place-admits =
+    pub place_admits : Admits r g nx' pv' st' cells' e
+    place_admits =
         let es : List Row = but_last k p.cache.desk.entries in
         record {
           cache = shed k p.cache;
@@ -52,9 +52,9 @@ module _ {h : Head} {f : Fields} {nx pv st cells : List ℕ} {k : ℕ} {e : Row}
           absent = p.ready.apart;
         }
 
-    pub place-acted : {r₂ : Head} {g₂ : Fields} {nx₂ pv₂ st₂ cells₂ : List ℕ} → Added r g nx' pv' st' cells' r₂ g₂ nx₂ pv₂ st₂ cells₂ e
+    pub place_acted : {r₂ : Head} {g₂ : Fields} {nx₂ pv₂ st₂ cells₂ : List ℕ} → Added r g nx' pv' st' cells' r₂ g₂ nx₂ pv₂ st₂ cells₂ e
         → Acted (Place k e) (packed h f nx pv st cells) (packed r₂ g₂ nx₂ pv₂ st₂ cells₂)
-    place-acted a =
+    place_acted a =
         acted (Place k e) (λ o d. refl)
         (tails_then (shed_slots place_rich q) q.tails a.tails)
         (λ c ready d.
@@ -69,17 +69,17 @@ module _ {h : Head} {f : Fields} {nx pv st cells : List ℕ} {k n : ℕ} (p : Pr
 
   module _ {r : Head} {g : Fields} {nx' pv' st' cells' : List ℕ} (q : Shed h f nx pv st cells r g nx' pv' st' cells' k) where
     -- what is left fits the capacity
-    pub fit-holds : Holds r g nx' pv' st' cells' n
-    fit-holds = record {
+    pub fit_holds : Holds r g nx' pv' st' cells' n
+    fit_holds = record {
       cache = shed k p.cache;
       described = q.described p.cache p.ready.named p.means;
       allowed = (p.ready.proper.0, p.ready.proper.1);
       fits = p.ready.proper.2;
     }
 
-    pub fit-acted : {r₂ : Head} {g₂ : Fields} {nx₂ pv₂ st₂ cells₂ : List ℕ} → Capped r g nx' pv' st' cells' r₂ g₂ nx₂ pv₂ st₂ cells₂ n
+    pub fit_acted : {r₂ : Head} {g₂ : Fields} {nx₂ pv₂ st₂ cells₂ : List ℕ} → Capped r g nx' pv' st' cells' r₂ g₂ nx₂ pv₂ st₂ cells₂ n
         → Acted (Fit k n) (packed h f nx pv st cells) (packed r₂ g₂ nx₂ pv₂ st₂ cells₂)
-    fit-acted a =
+    fit_acted a =
         record {
           tails = tails_then (shed_slots fit_rich q) q.tails a.tails;
           cells = λ c ready d e.
@@ -114,8 +114,8 @@ module _ {h : Head} {f : Fields} {nx pv st cells : List ℕ} {s : Slot} {k : ℕ
 
   module _ {r : Head} {g : Fields} {nx' pv' st' cells' : List ℕ} (q : Dropped h f nx pv st cells r g nx' pv' st' cells' s.0) where
     -- the state after that is ready for a placement
-    pub replace-prepared : Prepared (Place k e) (packed r g nx' pv' st' cells')
-    replace-prepared =
+    pub replace_prepared : Prepared (Place k e) (packed r g nx' pv' st' cells')
+    replace_prepared =
         let i : ℕ = place_of s.0 p.cache.slots.order in
         record {
           cache = after (drop i) p.cache;
@@ -123,13 +123,13 @@ module _ {h : Head} {f : Fields} {nx pv st cells : List ℕ} {s : Slot} {k : ℕ
           ready = replace_ready s k e p.cache p.ready;
         }
 
-    pub replace-acted : {r₂ : Head} {g₂ : Fields} {nx₂ pv₂ st₂ cells₂ : List ℕ}
+    pub replace_acted : {r₂ : Head} {g₂ : Fields} {nx₂ pv₂ st₂ cells₂ : List ℕ}
         → Acted (Place k e) (packed r g nx' pv' st' cells') (packed r₂ g₂ nx₂ pv₂ st₂ cells₂)
         → Acted (Replace s k e) (packed h f nx pv st cells) (packed r₂ g₂ nx₂ pv₂ st₂ cells₂)
-    unfolding replace-prepared
-    replace-acted a =
+    unfolding replace_prepared
+    replace_acted a =
         acted (Replace s k e) (λ o d. refl)
-        (tails_then (replace-prepared.means.room ∙ sym p.means.room) q.tails a.tails)
+        (tails_then (replace_prepared.means.room ∙ sym p.means.room) q.tails a.tails)
         (λ c ready d.
         let i : ℕ = place_of s.0 c.slots.order in
         a.means (after (drop i) c) (replace_ready s k e c ready) (q.described c i ready.named.0 d))

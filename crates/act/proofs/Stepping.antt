@@ -122,17 +122,17 @@ module _ {h : Head} {f : Fields} {nx pv st cells : List ℕ} where
   drop_occupied {s} p = standing s p.ready.named p.means
 
   module _ {r : Head} {g : Fields} {nx' pv' st' cells' : List ℕ} where
-    pub drop-acted : {s : Slot} → Dropped h f nx pv st cells r g nx' pv' st' cells' s.0
+    pub drop_acted : {s : Slot} → Dropped h f nx pv st cells r g nx' pv' st' cells' s.0
         → Acted (Drop s) (packed h f nx pv st cells) (packed r g nx' pv' st' cells')
-    drop-acted {s} q =
+    drop_acted {s} q =
         acted (Drop s) (λ o d. refl) q.tails
         (λ c ready d. q.described c (place_of s.0 c.slots.order) ready.named d)
 
     -- ---- a sweep
 
-    pub sweep-acted : {q : Rule} → Swept h f nx pv st cells r g nx' pv' st' cells' q
+    pub sweep_acted : {q : Rule} → Swept h f nx pv st cells r g nx' pv' st' cells' q
         → Acted (Sweep q) (packed h f nx pv st cells) (packed r g nx' pv' st' cells')
-    sweep-acted {q} w = record {
+    sweep_acted {q} w = record {
       tails = w.tails;
       cells = λ c ready d e. w.table c (emptied (marked (others (marks q c.desk.entries)) c.desk.entries) e) d;
       means = λ c ready d. w.described c d;
@@ -140,8 +140,8 @@ module _ {h : Head} {f : Fields} {nx pv st cells : List ℕ} where
 
     -- ---- all leave
 
-    pub clear-acted : Emptied h f nx pv st cells r g nx' pv' st' cells' → Acted Clear (packed h f nx pv st cells) (packed r g nx' pv' st' cells')
-    clear-acted w = acted Clear (λ o d. refl) w.tails (λ c ready d. clear_described d r g nx' pv' st' cells' w)
+    pub clear_acted : Emptied h f nx pv st cells r g nx' pv' st' cells' → Acted Clear (packed h f nx pv st cells) (packed r g nx' pv' st' cells')
+    clear_acted w = acted Clear (λ o d. refl) w.tails (λ c ready d. clear_described d r g nx' pv' st' cells' w)
 
   pub sweep_whole : {q : Rule} → Prepared (Sweep q) (packed h f nx pv st cells) → Whole h f nx pv st cells
   sweep_whole p = record { cache = p.cache; described = p.means }

@@ -63,29 +63,29 @@ module _ (h : Head) (nx pv st : List ℕ) (g : Fields) (t : ℕ) (p : Compactabl
     abbrev row : List ℕ
     row = partners (length order) 0 order
 
-    row-long : length row ≡ h.live
-    row-long = partners_length (length order) 0 order refl ∙ long
+    row_long : length row ≡ h.live
+    row_long = partners_length (length order) 0 order refl ∙ long
 
     row_is : take h.live st1 ≡ row
-    row_is = ap (take h.live) a.cells ∙ take_at row (drop (length order) st) h.live row-long
+    row_is = ap (take h.live) a.cells ∙ take_at row (drop (length order) st) h.live row_long
 
-    stack-long : length st1 ≡ length st
-    stack-long =
+    stack_long : length st1 ≡ length st
+    stack_long =
         omega (
           arith,
           ap length a.cells,
           length-append row (drop (length order) st),
-          row-long,
+          row_long,
           long,
           length-drop (length order) st,
           compactable_walk.few,
           compactable_walk.stacks,
         )
 
-    stack-kept : drop h.slots st1 ≡ drop h.slots st
-    stack-kept =
+    stack_kept : drop h.slots st1 ≡ drop h.slots st
+    stack_kept =
         let m = h.slots - h.live in
-        let e : h.slots ≡ length row + m = omega (arith, row-long, compactable_walk.few) in
+        let e : h.slots ≡ length row + m = omega (arith, row_long, compactable_walk.few) in
         let k : length order + m ≡ h.slots = omega (arith, long, compactable_walk.few) in
         ap (drop h.slots) a.cells ∙ ap (λ (n : ℕ). drop n (row ++ drop (length order) st)) e
         ∙ drop-append-add row (drop (length order) st) m ∙ drop-drop m (length order) st ∙ ap (λ (n : ℕ). drop n st) k
@@ -93,28 +93,28 @@ module _ (h : Head) (nx pv st : List ℕ) (g : Fields) (t : ℕ) (p : Compactabl
     exchangeable : (l : List ℕ) → h.slots ≤ length l → Exchangeable h.live st1 l
     exchangeable l e = record {
       few = omega (arith, compactable_walk.few);
-      row = omega (arith, stack-long, compactable_walk.few, compactable_walk.stacks);
+      row = omega (arith, stack_long, compactable_walk.few, compactable_walk.stacks);
       each = λ j k. let b : get_or st1 j 0 ≡ get_or row j 0 =
-          ap (λ (m : List ℕ). get_or m j 0) a.cells ∙ get_or-append row (drop (length order) st) 0 j (omega (arith, row-long)) in
+          ap (λ (m : List ℕ). get_or m j 0) a.cells ∙ get_or-append row (drop (length order) st) 0 j (omega (arith, row_long)) in
           omega (arith, partners_low (length order) 0 h.slots order refl compactable_walk.fit j (omega (arith, long)));
     }
 
-    pub reorder-exchangeable : AllExchangeable h.live st1 g
-    reorder-exchangeable = record {
+    pub reorder_exchangeable : AllExchangeable h.live st1 g
+    reorder_exchangeable = record {
       codes = exchangeable g.codes p.reach.codes;
       stamps = exchangeable g.stamps p.reach.stamps;
       values = exchangeable g.values p.reach.values;
       weights = exchangeable g.weights p.reach.weights;
     }
 
-    pub reorder-writable : Writable h.slots h.live t nx pv1 st1
-    reorder-writable = record {
+    pub reorder_writable : Writable h.slots h.live t nx pv1 st1
+    reorder_writable = record {
       small = compactable_walk.small;
       low = p.low;
       high = p.high;
       nexts = compactable_walk.nexts;
       prevs = omega (arith, compactable_walk.prevs, a.tail.size);
-      stacks = omega (arith, compactable_walk.stacks, stack-long);
+      stacks = omega (arith, compactable_walk.stacks, stack_long);
     }
 
     carry : (o f : List ℕ) → Linked h nx pv st o f [] → (l m : List ℕ) → h.slots ≤ length l → m ≡ exchanges 0 (take h.live st1) l → Carried h.slots o l m
@@ -133,9 +133,9 @@ module _ (h : Head) (nx pv st : List ℕ) (g : Fields) (t : ℕ) (p : Compactabl
         top = y.top;
         next_tail = w.nexts.tail;
         prev_tail = tail_trans a.tail w.prevs.tail;
-        stack_tail = tail_trans (record { size = stack-long; tail = stack-kept }) w.stacks.tail;
+        stack_tail = tail_trans (record { size = stack_long; tail = stack_kept }) w.stacks.tail;
         linked = λ o f d. subst (λ (l : ℕ). Linked r nx2 pv2 st2 (up_from 0 l) (up_from l (t - l)) []) (live_is h nx pv st o f d)
-            (written_linked h r t nx pv1 st1 nx2 pv2 st2 reorder-writable y w);
+            (written_linked h r t nx pv1 st1 nx2 pv2 st2 reorder_writable y w);
         moved = λ o f d. record {
           codes = carry o f d g.codes g'.codes p.reach.codes x.codes;
           stamps = carry o f d g.stamps g'.stamps p.reach.stamps x.stamps;

@@ -119,9 +119,9 @@ none_kept = record { nexts = λ i c. absurd (omega arith); prevs = λ i c. absur
 module _ {h : Head} {nx pv st o s : List ℕ} {f : Fields} (l : Linked h nx pv st o s []) where
   module _ {r : Head} {nx' pv' st' : List ℕ} {g : Fields} where
     -- list's `one_outcome` takes two of these
-    pub reordered-left : {t : ℕ} → Reordered h r nx pv st nx' pv' st' f g t
+    pub reordered_left : {t : ℕ} → Reordered h r nx pv st nx' pv' st' f g t
         → Left h r nx pv st nx' pv' st' (up_from 0 (length o)) (up_from (length o) (t - length o)) []
-    reordered-left w = record {
+    reordered_left w = record {
       rest = w.rest;
       next_tail = w.compacted.next_tail;
       prev_tail = w.compacted.prev_tail;
@@ -130,9 +130,9 @@ module _ {h : Head} {nx pv st o s : List ℕ} {f : Fields} (l : Linked h nx pv s
       kept = none_kept;
     }
 
-    pub shrunk-left : {d : ℕ} → Resized h r nx pv st nx' pv' st' f g d → d < h.capacity
+    pub shrunk_left : {d : ℕ} → Resized h r nx pv st nx' pv' st' f g d → d < h.capacity
         → Left (recapped d h) r nx pv st nx' pv' st' (up_from 0 (length o)) (up_from (length o) (min h.top.0 d - length o)) []
-    shrunk-left w lt = record {
+    shrunk_left w lt = record {
       rest = record { kind = w.kind; capacity = w.capacity; slots = w.slots; weight = w.weight };
       next_tail = (w.shrunk lt).next_tail;
       prev_tail = (w.shrunk lt).prev_tail;
@@ -144,10 +144,10 @@ module _ {h : Head} {nx pv st o s : List ℕ} {f : Fields} (l : Linked h nx pv s
   -- two outcomes of one resize are equal in every number
   module _ {r r' : Head} {nx1 pv1 st1 nx2 pv2 st2 : List ℕ} {g g' : Fields} {d : ℕ}
       (w : Resized h r nx pv st nx1 pv1 st1 f g d) (w' : Resized h r' nx pv st nx2 pv2 st2 f g' d) where
-    pub resized-one : Same r r' nx1 nx2 pv1 pv2 st1 st2
-    resized-one =
+    pub resized_one : Same r r' nx1 nx2 pv1 pv2 st1 st2
+    resized_one =
         ⊎_elim
-        (λ lt. one_outcome (shrunk-left w lt) (shrunk-left w' lt))
+        (λ lt. one_outcome (shrunk_left w lt) (shrunk_left w' lt))
         (λ ge. let a = w.stayed ge in
         let b = w'.stayed ge in
         record {
@@ -158,8 +158,8 @@ module _ {h : Head} {nx pv st o s : List ℕ} {f : Fields} (l : Linked h nx pv s
         })
         (under? d h.capacity)
 
-    pub resized-one-fields : Reach h.slots f → AllBlank h.slots o f → g ≡ g'
-    resized-one-fields e z =
+    pub resized_one_fields : Reach h.slots f → AllBlank h.slots o f → g ≡ g'
+    resized_one_fields e z =
         ⊎_elim
         (λ lt. moved_one h.slots o f g g' e z ((w.shrunk lt).moved o s l) ((w'.shrunk lt).moved o s l))
         (λ ge. (w.stayed ge).fields ∙ sym (w'.stayed ge).fields)

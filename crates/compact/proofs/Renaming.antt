@@ -119,14 +119,14 @@ pub place_renamed : (k a s x : ℕ) → (x ≡ a → ⊥) → (r : List ℕ) →
 place_renamed k a s x n [] z = sym (ifeq_by s x _ _ _ (λ e. refl) (λ d. refl))
 place_renamed k a s x n (y ∷ r) z =
     let ih = place_renamed (suc k) a s x n r (omega arith) in
-    let not-s : s ≡ y → ⊥ = λ e. omega (arith, hit y s (sym e)) in
+    let not_s : s ≡ y → ⊥ = λ e. omega (arith, hit y s (sym e)) in
     ⊎_elim
     (λ e. rw (ifeq_same y a s y e) (⊎_elim
     (λ q. ifeq_same s x _ _ q ∙ sym (ifeq_same y a _ _ e) ∙ sym (ifeq_same s x _ _ q))
     (λ q. ifeq_other s x _ _ q ∙ ih ∙ ifeq_other s x _ _ q ∙ sym (ifeq_other y x _ _ (λ w. n (sym w ∙ e))) ∙ sym (ifeq_other s x _ _ q))
     (same? s x)))
     (λ d. rw (ifeq_other y a s y d) (⊎_elim
-    (λ q. ifeq_other y x _ _ (λ w. not-s (q ∙ sym w)) ∙ ih ∙ ifeq_same s x _ _ q ∙ sym (ifeq_other y a _ _ d) ∙ sym (ifeq_same s x _ _ q))
+    (λ q. ifeq_other y x _ _ (λ w. not_s (q ∙ sym w)) ∙ ih ∙ ifeq_same s x _ _ q ∙ sym (ifeq_other y a _ _ d) ∙ sym (ifeq_same s x _ _ q))
     (λ q. ap (ifeq y x k) (ih ∙ ifeq_other s x _ _ q) ∙ sym (ifeq_other s x _ _ q))
     (same? s x)))
     (same? y a)

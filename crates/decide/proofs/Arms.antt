@@ -31,7 +31,7 @@ use Rattle.decide.specs.Wants.{wanted_by, search_for}
 use Rattle.decide.specs.Numbers.{fitted, Ending, Readable, Reached, shown, popped, assigned}
 use Rattle.decide.proofs.Pointing.{reaches}
 use Rattle.decide.proofs.Putting.{fitted_means, fitted_named}
-use Rattle.decide.proofs.Ends.{front_ends, back_ends, end-reached, shown-means, shown-named, popped-means, popped-named, assigned-means, assigned-named}
+use Rattle.decide.proofs.Ends.{front_ends, back_ends, end_reached, shown_means, shown_named, popped_means, popped_named, assigned_means, assigned_named}
 
 -- the answer of a search in a state's table
 abbrev answer_in : State → Wanted → Search
@@ -61,40 +61,40 @@ module _ {s : State} where
     pub opened : Gapped (2 * s.head.slots) s.cells s.fields.codes
     opened = search_open w.described
 
-    reached-for : (k : Wanted) {a : Search} → a ≡ answer_in s k → Reached a s.fields.values
-    reached-for (For k) {a} q = reaches a (looked k q w.cache w.described)
-    reached-for Nothing q = rw q tt
+    reached_for : (k : Wanted) {a : Search} → a ≡ answer_in s k → Reached a s.fields.values
+    reached_for (For k) {a} q = reaches a (looked k q w.cache w.described)
+    reached_for Nothing q = rw q tt
 
-    pub search-reached : (m : Command) {a : Search} → a ≡ answer_in s (wanted_by m) → Reached a s.fields.values
-    search-reached m q = reached-for (wanted_by m) q
+    pub search_reached : (m : Command) {a : Search} → a ≡ answer_in s (wanted_by m) → Reached a s.fields.values
+    search_reached m q = reached_for (wanted_by m) q
 
-    pub some-loaded : {m : Command} {a : Search} {k : Code} {t v u : ℕ} → m ≡ PutWithWeight k t v u
+    pub some_loaded : {m : Command} {a : Search} {k : Code} {t v u : ℕ} → m ≡ PutWithWeight k t v u
         → a ≡ answer_in s (wanted_by m) → Some (Loaded s.head s.fields.values s.fields.weights s.prevs a k.0)
     unfolding wanted_by
-    some-loaded {k = k} e q = record { cache = w.cache; seen = loaded k (rw e at q) w.cache w.described }
+    some_loaded {k = k} e q = record { cache = w.cache; seen = loaded k (rw e at q) w.cache w.described }
 
-    pub some-forward : Some (Forward s.head s.fields s.nexts)
-    some-forward = record { cache = w.cache; seen = forward w.described }
+    pub some_forward : Some (Forward s.head s.fields s.nexts)
+    some_forward = record { cache = w.cache; seen = forward w.described }
 
-    pub some-weighted : Some (Weighted s.head s.fields.weights s.prevs)
-    some-weighted = record { cache = w.cache; seen = weighted w.described }
+    pub some_weighted : Some (Weighted s.head s.fields.weights s.prevs)
+    some_weighted = record { cache = w.cache; seen = weighted w.described }
 
     pub small : s.head.live + s.head.weight ≤ most_capacity
     small =
         let d = w.described in
         omega (arith, order_live d, d.weight, d.lawful.within, d.lawful.capacity.1)
 
-    pub front-ending : Ending s.head.front.0 s.fields
-    front-ending = end-reached w.described s.head.front (first w.cache.desk.entries) (front_ends w.described)
+    pub front_ending : Ending s.head.front.0 s.fields
+    front_ending = end_reached w.described s.head.front (first w.cache.desk.entries) (front_ends w.described)
 
-    pub back-ending : Ending s.head.back.0 s.fields
-    back-ending = end-reached w.described s.head.back (last w.cache.desk.entries) (back_ends w.described)
+    pub back_ending : Ending s.head.back.0 s.fields
+    back_ending = end_reached w.described s.head.back (last w.cache.desk.entries) (back_ends w.described)
 
-    pub front-readable : Readable s.head.front.0 s.fields.values
-    front-readable n = (front-ending n).values
+    pub front_readable : Readable s.head.front.0 s.fields.values
+    front_readable n = (front_ending n).values
 
-    pub back-readable : Readable s.head.back.0 s.fields.values
-    back-readable n = (back-ending n).values
+    pub back_readable : Readable s.head.back.0 s.fields.values
+    back_readable n = (back_ending n).values
 
   -- what is settled for a view is settled for the state
   seen_by : (P : Cache → Type 0) {call : Desk → Verdict} {lent : ℕ} {r : Decision} → ((c : Cache) → Means s c → P c) → Settles P call lent r → Settles (Means s) call lent r
@@ -107,37 +107,37 @@ module _ {s : State} where
   module _ {m : Command} {lent : ℕ} {r : Decision} where
     -- ---- totals
 
-    pub len-arm : m ≡ Len → r ≡ said (Count s.head.live) → Settles (Means s) (verdict m) lent r
+    pub len_arm : m ≡ Len → r ≡ said (Count s.head.live) → Settles (Means s) (verdict m) lent r
     unfolding verdict
-    len-arm e z = rw (e, z) (record { means = λ c d. rw (order_live d, leb-zero lent) refl; named = λ c d. tt })
+    len_arm e z = rw (e, z) (record { means = λ c d. rw (order_live d, leb-zero lent) refl; named = λ c d. tt })
 
-    pub capacity-arm : m ≡ Capacity → r ≡ said (Count s.head.capacity) → Settles (Means s) (verdict m) lent r
+    pub capacity_arm : m ≡ Capacity → r ≡ said (Count s.head.capacity) → Settles (Means s) (verdict m) lent r
     unfolding verdict
-    capacity-arm e z = rw (e, z) (record { means = λ c d. rw (d.capacity, leb-zero lent) refl; named = λ c d. tt })
+    capacity_arm e z = rw (e, z) (record { means = λ c d. rw (d.capacity, leb-zero lent) refl; named = λ c d. tt })
 
-    pub weight-arm : m ≡ Weight → r ≡ said (Count s.head.weight) → Settles (Means s) (verdict m) lent r
+    pub weight_arm : m ≡ Weight → r ≡ said (Count s.head.weight) → Settles (Means s) (verdict m) lent r
     unfolding verdict
-    weight-arm e z = rw (e, z) (record { means = λ c d. rw (d.weight, leb-zero lent) refl; named = λ c d. tt })
+    weight_arm e z = rw (e, z) (record { means = λ c d. rw (d.weight, leb-zero lent) refl; named = λ c d. tt })
 
-    pub empty-arm : m ≡ IsEmpty → r ≡ said (Flag (eqb s.head.live 0)) → Settles (Means s) (verdict m) lent r
+    pub empty_arm : m ≡ IsEmpty → r ≡ said (Flag (eqb s.head.live 0)) → Settles (Means s) (verdict m) lent r
     unfolding verdict
-    empty-arm e z = rw (e, z) (record { means = λ c d. rw (order_live d, leb-zero lent) refl; named = λ c d. tt })
+    empty_arm e z = rw (e, z) (record { means = λ c d. rw (order_live d, leb-zero lent) refl; named = λ c d. tt })
 
-    pub full-arm : {t : Bool} → m ≡ IsFull → t ≡ eqb (s.head.live + s.head.weight) s.head.capacity → r ≡ said (Flag t) → Settles (Means s) (verdict m) lent r
+    pub full_arm : {t : Bool} → m ≡ IsFull → t ≡ eqb (s.head.live + s.head.weight) s.head.capacity → r ≡ said (Flag t) → Settles (Means s) (verdict m) lent r
     unfolding verdict
-    full-arm e q z =
+    full_arm e q z =
         rw (e, z, q)
         (record { means = λ c d. rw (order_live d, d.weight, d.capacity, leb-zero lent) refl; named = λ c d. tt })
 
-    pub clear-arm : m ≡ Clear → r ≡ record { answer = Count s.head.live; plan = PlanClear } → Settles (Means s) (verdict m) lent r
+    pub clear_arm : m ≡ Clear → r ≡ record { answer = Count s.head.live; plan = PlanClear } → Settles (Means s) (verdict m) lent r
     unfolding verdict
-    clear-arm e z = rw (e, z) (record { means = λ c d. rw (order_live d, leb-zero lent) refl; named = λ c d. tt })
+    clear_arm e z = rw (e, z) (record { means = λ c d. rw (order_live d, leb-zero lent) refl; named = λ c d. tt })
 
     -- ---- listings
 
-    pub list-arm : m ≡ ListFront → r ≡ fitted lent s.head.live (record { answer = Done s.head.live; plan = PlanList }) → Settles (Means s) (verdict m) lent r
+    pub list_arm : m ≡ ListFront → r ≡ fitted lent s.head.live (record { answer = Done s.head.live; plan = PlanList }) → Settles (Means s) (verdict m) lent r
     unfolding verdict
-    list-arm e z =
+    list_arm e z =
         rw (e, z)
         (record {
           means = λ c d.
@@ -146,9 +146,9 @@ module _ {s : State} where
           named = λ c d. fitted_named c lent s.head.live (record { answer = Done s.head.live; plan = PlanList }) tt;
         })
 
-    pub list-back-arm : m ≡ ListBack → r ≡ fitted lent s.head.live (record { answer = Done s.head.live; plan = PlanListBack }) → Settles (Means s) (verdict m) lent r
+    pub list_back_arm : m ≡ ListBack → r ≡ fitted lent s.head.live (record { answer = Done s.head.live; plan = PlanListBack }) → Settles (Means s) (verdict m) lent r
     unfolding verdict
-    list-back-arm e z =
+    list_back_arm e z =
         rw (e, z)
         (record {
           means = λ c d.
@@ -159,110 +159,110 @@ module _ {s : State} where
 
     -- ---- the ends
 
-    pub front-arm : m ≡ Front → r ≡ shown s.fields s.head.front → Settles (Means s) (verdict m) lent r
+    pub front_arm : m ≡ Front → r ≡ shown s.fields s.head.front → Settles (Means s) (verdict m) lent r
     unfolding verdict
-    front-arm e z =
+    front_arm e z =
         rw (e, z)
         (record {
-          means = λ c d. shown-means d s.head.front (first c.desk.entries) (front_ends d) lent;
-          named = λ c d. shown-named d s.head.front (first c.desk.entries) (front_ends d);
+          means = λ c d. shown_means d s.head.front (first c.desk.entries) (front_ends d) lent;
+          named = λ c d. shown_named d s.head.front (first c.desk.entries) (front_ends d);
         })
 
-    pub back-arm : m ≡ Back → r ≡ shown s.fields s.head.back → Settles (Means s) (verdict m) lent r
+    pub back_arm : m ≡ Back → r ≡ shown s.fields s.head.back → Settles (Means s) (verdict m) lent r
     unfolding verdict
-    back-arm e z =
+    back_arm e z =
         rw (e, z)
         (record {
-          means = λ c d. shown-means d s.head.back (last c.desk.entries) (back_ends d) lent;
-          named = λ c d. shown-named d s.head.back (last c.desk.entries) (back_ends d);
+          means = λ c d. shown_means d s.head.back (last c.desk.entries) (back_ends d) lent;
+          named = λ c d. shown_named d s.head.back (last c.desk.entries) (back_ends d);
         })
 
-    pub pop-front-arm : m ≡ PopFront → r ≡ popped s.fields s.head.front → Settles (Means s) (verdict m) lent r
+    pub pop_front_arm : m ≡ PopFront → r ≡ popped s.fields s.head.front → Settles (Means s) (verdict m) lent r
     unfolding verdict
-    pop-front-arm e z =
+    pop_front_arm e z =
         rw (e, z)
         (record {
-          means = λ c d. popped-means d s.head.front (first c.desk.entries) (front_ends d) lent;
-          named = λ c d. popped-named d s.head.front (first c.desk.entries) (front_ends d);
+          means = λ c d. popped_means d s.head.front (first c.desk.entries) (front_ends d) lent;
+          named = λ c d. popped_named d s.head.front (first c.desk.entries) (front_ends d);
         })
 
-    pub pop-back-arm : m ≡ PopBack → r ≡ popped s.fields s.head.back → Settles (Means s) (verdict m) lent r
+    pub pop_back_arm : m ≡ PopBack → r ≡ popped s.fields s.head.back → Settles (Means s) (verdict m) lent r
     unfolding verdict
-    pop-back-arm e z =
+    pop_back_arm e z =
         rw (e, z)
         (record {
-          means = λ c d. popped-means d s.head.back (last c.desk.entries) (back_ends d) lent;
-          named = λ c d. popped-named d s.head.back (last c.desk.entries) (back_ends d);
+          means = λ c d. popped_means d s.head.back (last c.desk.entries) (back_ends d) lent;
+          named = λ c d. popped_named d s.head.back (last c.desk.entries) (back_ends d);
         })
 
-    pub front-mut-arm : {v : ℕ} → m ≡ FrontMut v → r ≡ assigned s.head.kind s.fields.values s.head.front v → Settles (Means s) (verdict m) lent r
+    pub front_mut_arm : {v : ℕ} → m ≡ FrontMut v → r ≡ assigned s.head.kind s.fields.values s.head.front v → Settles (Means s) (verdict m) lent r
     unfolding verdict
-    front-mut-arm {v} e z =
+    front_mut_arm {v} e z =
         rw (e, z)
         (record {
-          means = λ c d. assigned-means d s.head.front (first c.desk.entries) (front_ends d) lent v;
-          named = λ c d. assigned-named d s.head.front (first c.desk.entries) (front_ends d) v;
+          means = λ c d. assigned_means d s.head.front (first c.desk.entries) (front_ends d) lent v;
+          named = λ c d. assigned_named d s.head.front (first c.desk.entries) (front_ends d) v;
         })
 
-    pub back-mut-arm : {v : ℕ} → m ≡ BackMut v → r ≡ assigned s.head.kind s.fields.values s.head.back v → Settles (Means s) (verdict m) lent r
+    pub back_mut_arm : {v : ℕ} → m ≡ BackMut v → r ≡ assigned s.head.kind s.fields.values s.head.back v → Settles (Means s) (verdict m) lent r
     unfolding verdict
-    back-mut-arm {v} e z =
+    back_mut_arm {v} e z =
         rw (e, z)
         (record {
-          means = λ c d. assigned-means d s.head.back (last c.desk.entries) (back_ends d) lent v;
-          named = λ c d. assigned-named d s.head.back (last c.desk.entries) (back_ends d) v;
+          means = λ c d. assigned_means d s.head.back (last c.desk.entries) (back_ends d) lent v;
+          named = λ c d. assigned_named d s.head.back (last c.desk.entries) (back_ends d) v;
         })
 
     -- ---- by code
 
     module _ {a : Search} (q : a ≡ answer_in s (wanted_by m)) where
-      pub contains-arm : {k : Code} → m ≡ Contains k → ((h : Head) (values : List ℕ) (code : ℕ) → Always (Sought h values a code) (contains_call code) r) → Settles (Means s) (verdict m) lent r
+      pub contains_arm : {k : Code} → m ≡ Contains k → ((h : Head) (values : List ℕ) (code : ℕ) → Always (Sought h values a code) (contains_call code) r) → Settles (Means s) (verdict m) lent r
       unfolding verdict wanted_by
-      contains-arm {k} e p = rw e (by_code k (rw e at q) (p s.head s.fields.values k.0 lent))
+      contains_arm {k} e p = rw e (by_code k (rw e at q) (p s.head s.fields.values k.0 lent))
 
-      pub peek-arm : {k : Code} → m ≡ Peek k → ((h : Head) (code : ℕ) → Always (Sought h s.fields.values a code) (peek_call code) r) → Settles (Means s) (verdict m) lent r
+      pub peek_arm : {k : Code} → m ≡ Peek k → ((h : Head) (code : ℕ) → Always (Sought h s.fields.values a code) (peek_call code) r) → Settles (Means s) (verdict m) lent r
       unfolding verdict wanted_by
-      peek-arm {k} e p = rw e (by_code k (rw e at q) (p s.head k.0 lent))
+      peek_arm {k} e p = rw e (by_code k (rw e at q) (p s.head k.0 lent))
 
-      pub get-arm : {k : Code} → m ≡ Get k → ((h : Head) (code : ℕ) → Always (Sought h s.fields.values a code) (get_call code) r) → Settles (Means s) (verdict m) lent r
+      pub get_arm : {k : Code} → m ≡ Get k → ((h : Head) (code : ℕ) → Always (Sought h s.fields.values a code) (get_call code) r) → Settles (Means s) (verdict m) lent r
       unfolding verdict wanted_by
-      get-arm {k} e p = rw e (by_code k (rw e at q) (p s.head k.0 lent))
+      get_arm {k} e p = rw e (by_code k (rw e at q) (p s.head k.0 lent))
 
-      pub pop-arm : {k : Code} → m ≡ Pop k → ((h : Head) (code : ℕ) → Always (Sought h s.fields.values a code) (pop_call code) r) → Settles (Means s) (verdict m) lent r
+      pub pop_arm : {k : Code} → m ≡ Pop k → ((h : Head) (code : ℕ) → Always (Sought h s.fields.values a code) (pop_call code) r) → Settles (Means s) (verdict m) lent r
       unfolding verdict wanted_by
-      pop-arm {k} e p = rw e (by_code k (rw e at q) (p s.head k.0 lent))
+      pop_arm {k} e p = rw e (by_code k (rw e at q) (p s.head k.0 lent))
 
-      pub get-mut-arm : {k : Code} {v : ℕ} → m ≡ GetMut k v → ((code : ℕ) → Always (Sought s.head s.fields.values a code) (get_mut_call code v) r) → Settles (Means s) (verdict m) lent r
+      pub get_mut_arm : {k : Code} {v : ℕ} → m ≡ GetMut k v → ((code : ℕ) → Always (Sought s.head s.fields.values a code) (get_mut_call code v) r) → Settles (Means s) (verdict m) lent r
       unfolding verdict wanted_by
-      get-mut-arm {k} e p = rw e (by_code k (rw e at q) (p k.0 lent))
+      get_mut_arm {k} e p = rw e (by_code k (rw e at q) (p k.0 lent))
 
-      pub peek-mut-arm : {k : Code} {v : ℕ} → m ≡ PeekMut k v → ((code : ℕ) → Always (Sought s.head s.fields.values a code) (peek_mut_call code v) r) → Settles (Means s) (verdict m) lent r
+      pub peek_mut_arm : {k : Code} {v : ℕ} → m ≡ PeekMut k v → ((code : ℕ) → Always (Sought s.head s.fields.values a code) (peek_mut_call code v) r) → Settles (Means s) (verdict m) lent r
       unfolding verdict wanted_by
-      peek-mut-arm {k} e p = rw e (by_code k (rw e at q) (p k.0 lent))
+      peek_mut_arm {k} e p = rw e (by_code k (rw e at q) (p k.0 lent))
 
-      pub put-arm : {k : Code} {t v : ℕ} → m ≡ Put k t v → Settles (Sought s.head s.fields.values a k.0) (put_call k.0 t v) lent r → Settles (Means s) (verdict m) lent r
+      pub put_arm : {k : Code} {t v : ℕ} → m ≡ Put k t v → Settles (Sought s.head s.fields.values a k.0) (put_call k.0 t v) lent r → Settles (Means s) (verdict m) lent r
       unfolding verdict wanted_by
-      put-arm {k} e p = rw e (by_code k (rw e at q) p)
+      put_arm {k} e p = rw e (by_code k (rw e at q) p)
 
-      pub modify-arm : {k : Code} {t n : ℕ} → m ≡ PutOrModify k t n → Settles (Sought s.head s.fields.values a k.0) (put_or_modify_call k.0 t n) lent r → Settles (Means s) (verdict m) lent r
+      pub modify_arm : {k : Code} {t n : ℕ} → m ≡ PutOrModify k t n → Settles (Sought s.head s.fields.values a k.0) (put_or_modify_call k.0 t n) lent r → Settles (Means s) (verdict m) lent r
       unfolding verdict wanted_by
-      modify-arm {k} e p = rw e (by_code k (rw e at q) p)
+      modify_arm {k} e p = rw e (by_code k (rw e at q) p)
 
-      pub try-arm : {k : Code} {t n most : ℕ} → m ≡ TryPutOrModify k t n most → Settles (Sought s.head s.fields.values a k.0) (try_put_or_modify_call k.0 t n most) lent r → Settles (Means s) (verdict m) lent r
+      pub try_arm : {k : Code} {t n most : ℕ} → m ≡ TryPutOrModify k t n most → Settles (Sought s.head s.fields.values a k.0) (try_put_or_modify_call k.0 t n most) lent r → Settles (Means s) (verdict m) lent r
       unfolding verdict wanted_by
-      try-arm {k} e p = rw e (by_code k (rw e at q) p)
+      try_arm {k} e p = rw e (by_code k (rw e at q) p)
 
-      pub weighed-arm : {k : Code} {t v u : ℕ} → m ≡ PutWithWeight k t v u
+      pub weighed_arm : {k : Code} {t v u : ℕ} → m ≡ PutWithWeight k t v u
           → Settles (Loaded s.head s.fields.values s.fields.weights s.prevs a k.0) (put_with_weight_call k.0 t v u) lent r → Settles (Means s) (verdict m) lent r
       unfolding verdict wanted_by
-      weighed-arm {k} e p = rw e (seen_by (Loaded s.head s.fields.values s.fields.weights s.prevs a k.0) (loaded k (rw e at q)) p)
+      weighed_arm {k} e p = rw e (seen_by (Loaded s.head s.fields.values s.fields.weights s.prevs a k.0) (loaded k (rw e at q)) p)
 
     -- ---- by rule, by capacity
 
-    pub retain-arm : {q : Rule} → m ≡ Retain q → Settles (Forward s.head s.fields s.nexts) (retain_call q) lent r → Settles (Means s) (verdict m) lent r
+    pub retain_arm : {q : Rule} → m ≡ Retain q → Settles (Forward s.head s.fields s.nexts) (retain_call q) lent r → Settles (Means s) (verdict m) lent r
     unfolding verdict
-    retain-arm e p = rw e (seen_by (Forward s.head s.fields s.nexts) (λ c d. forward d) p)
+    retain_arm e p = rw e (seen_by (Forward s.head s.fields s.nexts) (λ c d. forward d) p)
 
-    pub resize-arm : {n : ℕ} → m ≡ Resize n → Settles (Weighted s.head s.fields.weights s.prevs) (resize_call n) lent r → Settles (Means s) (verdict m) lent r
+    pub resize_arm : {n : ℕ} → m ≡ Resize n → Settles (Weighted s.head s.fields.weights s.prevs) (resize_call n) lent r → Settles (Means s) (verdict m) lent r
     unfolding verdict
-    resize-arm e p = rw e (seen_by (Weighted s.head s.fields.weights s.prevs) (λ c d. weighted d) p)
+    resize_arm e p = rw e (seen_by (Weighted s.head s.fields.weights s.prevs) (λ c d. weighted d) p)

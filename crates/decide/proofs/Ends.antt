@@ -63,48 +63,48 @@ module _ {h : Head} {f : Fields} {nx pv st cells : List ℕ} {c : Cache} (d : De
 
   module _ (s : Slot) (x : Found) (p : Ends f c s.0 x) where
     -- the fields reach the slot at an end
-    pub end-reached : (s.0 ≡ none_mark → ⊥) → Writable s.0 f
-    end-reached n = ⊎_elim (λ z. absurd (n z.0)) (λ z. reached d s.0 z.1.there) p.either
+    pub end_reached : (s.0 ≡ none_mark → ⊥) → Writable s.0 f
+    end_reached n = ⊎_elim (λ z. absurd (n z.0)) (λ z. reached d s.0 z.1.there) p.either
 
-    pub shown-means : (lent : ℕ) → handed lent (showing x) ≡ meant (shown f s) c
-    shown-means lent =
+    pub shown_means : (lent : ℕ) → handed lent (showing x) ≡ meant (shown f s) c
+    shown_means lent =
         ⊎_elim
         (λ z. rw (eq-eqb s.0 none_mark z.0, z.1, leb-zero lent) refl)
         (λ z. rw (ne_eqb s.0 none_mark z.0, z.1.found, leb-zero lent) refl)
         p.either
 
-    pub shown-named : Named (shown f s).plan c
-    shown-named = ⊎_elim (λ z. rw (eq-eqb s.0 none_mark z.0) tt) (λ z. rw (ne_eqb s.0 none_mark z.0) tt) p.either
+    pub shown_named : Named (shown f s).plan c
+    shown_named = ⊎_elim (λ z. rw (eq-eqb s.0 none_mark z.0) tt) (λ z. rw (ne_eqb s.0 none_mark z.0) tt) p.either
 
-    pub popped-means : (lent : ℕ) → handed lent (popping x) ≡ meant (popped f s) c
-    popped-means lent =
+    pub popped_means : (lent : ℕ) → handed lent (popping x) ≡ meant (popped f s) c
+    popped_means lent =
         ⊎_elim
         (λ z. rw (eq-eqb s.0 none_mark z.0, z.1, leb-zero lent) refl)
         (λ z. rw (ne_eqb s.0 none_mark z.0, z.1.found, leb-zero lent) refl)
         p.either
 
-    pub popped-named : Named (popped f s).plan c
-    popped-named = ⊎_elim (λ z. rw (eq-eqb s.0 none_mark z.0) tt) (λ z. rw (ne_eqb s.0 none_mark z.0) z.1.there) p.either
+    pub popped_named : Named (popped f s).plan c
+    popped_named = ⊎_elim (λ z. rw (eq-eqb s.0 none_mark z.0) tt) (λ z. rw (ne_eqb s.0 none_mark z.0) z.1.there) p.either
 
-    assigned-plain : (lent v : ℕ) → h.kind ≡ plain_kind → handed lent (setting x v c.desk) ≡ meant (assigned h.kind f.values s v) c
-    assigned-plain lent v k =
+    assigned_plain : (lent v : ℕ) → h.kind ≡ plain_kind → handed lent (setting x v c.desk) ≡ meant (assigned h.kind f.values s v) c
+    assigned_plain lent v k =
         ⊎_elim
         (λ z. rw (kind_plain c.desk.kind (sym d.kind ∙ k), eq-eqb h.kind plain_kind k, eq-eqb s.0 none_mark z.0, z.1, leb-zero lent) refl)
         (λ z. rw (kind_plain c.desk.kind (sym d.kind ∙ k), eq-eqb h.kind plain_kind k, ne_eqb s.0 none_mark z.0, z.1.found, leb-zero lent) refl)
         p.either
 
-    pub assigned-means : (lent v : ℕ) → handed lent (setting x v c.desk) ≡ meant (assigned h.kind f.values s v) c
-    assigned-means lent v =
-        ⊎_elim (λ k. assigned-plain lent v k)
+    pub assigned_means : (lent v : ℕ) → handed lent (setting x v c.desk) ≡ meant (assigned h.kind f.values s v) c
+    assigned_means lent v =
+        ⊎_elim (λ k. assigned_plain lent v k)
         (λ n. rw (kind_weighed c.desk.kind (λ e. n (d.kind ∙ e)), ne_eqb h.kind plain_kind n, leb-zero lent) refl)
         (same? h.kind plain_kind)
 
-    named-plain : (v : ℕ) → h.kind ≡ plain_kind → Named (assigned h.kind f.values s v).plan c
-    named-plain v k =
+    named_plain : (v : ℕ) → h.kind ≡ plain_kind → Named (assigned h.kind f.values s v).plan c
+    named_plain v k =
         ⊎_elim
         (λ z. rw (eq-eqb h.kind plain_kind k, eq-eqb s.0 none_mark z.0) tt)
         (λ z. rw (eq-eqb h.kind plain_kind k, ne_eqb s.0 none_mark z.0) z.1.there)
         p.either
 
-    pub assigned-named : (v : ℕ) → Named (assigned h.kind f.values s v).plan c
-    assigned-named v = ⊎_elim (λ k. named-plain v k) (λ n. rw (ne_eqb h.kind plain_kind n) tt) (same? h.kind plain_kind)
+    pub assigned_named : (v : ℕ) → Named (assigned h.kind f.values s v).plan c
+    assigned_named v = ⊎_elim (λ k. named_plain v k) (λ n. rw (ne_eqb h.kind plain_kind n) tt) (same? h.kind plain_kind)

@@ -68,23 +68,23 @@ module _ {h : Head} {values : List ℕ} {a : Search} {code : ℕ} (lent : ℕ) w
   -- ---- the code is found
 
   module _ {s : Slot} {cell count : ℕ} (e : a ≡ FoundSlot s cell count) where
-    pub contains-some : {r : Decision} → r ≡ said (Flag true) → Settles (Sought h values a code) (contains_call code) lent r
-    contains-some z = record { means = λ c v. rw ((points v e).found, leb-zero lent, z) refl; named = λ c v. rw z tt }
+    pub contains_some : {r : Decision} → r ≡ said (Flag true) → Settles (Sought h values a code) (contains_call code) lent r
+    contains_some z = record { means = λ c v. rw ((points v e).found, leb-zero lent, z) refl; named = λ c v. rw z tt }
 
     pub peek_found : {r : Decision} → r ≡ said (Is (get_or values s.0 0)) → Settles (Sought h values a code) (peek_call code) lent r
     peek_found z = record { means = λ c v. rw ((points v e).found, leb-zero lent, z) refl; named = λ c v. rw z tt }
 
-    pub get-found : Settles (Sought h values a code) (get_call code) lent (record { answer = Is (get_or values s.0 0); plan = Raise s })
-    get-found = record { means = λ c v. rw ((points v e).found, leb-zero lent) refl; named = λ c v. (points v e).there }
+    pub get_found : Settles (Sought h values a code) (get_call code) lent (record { answer = Is (get_or values s.0 0); plan = Raise s })
+    get_found = record { means = λ c v. rw ((points v e).found, leb-zero lent) refl; named = λ c v. (points v e).there }
 
-    pub pop-found : Settles (Sought h values a code) (pop_call code) lent (record { answer = Was (get_or values s.0 0) 0; plan = Drop s })
-    pop-found = record { means = λ c v. rw ((points v e).found, leb-zero lent) refl; named = λ c v. (points v e).there }
+    pub pop_found : Settles (Sought h values a code) (pop_call code) lent (record { answer = Was (get_or values s.0 0) 0; plan = Drop s })
+    pop_found = record { means = λ c v. rw ((points v e).found, leb-zero lent) refl; named = λ c v. (points v e).there }
 
     -- the entry takes a value, and moves to the front or stays
 
-    pub renew-found : (none : Desk → Verdict) (x : ℕ)
+    pub renew_found : (none : Desk → Verdict) (x : ℕ)
         → Settles (Sought h values a code) (λ d. on_found (find code d.entries) (none d) (λ i e. saying (Was e.value 0) (renew i x))) lent (record { answer = Was (get_or values s.0 0) 0; plan = Renew s x })
-    renew-found none x = record { means = λ c v. rw ((points v e).found, leb-zero lent) refl; named = λ c v. (points v e).there }
+    renew_found none x = record { means = λ c v. rw ((points v e).found, leb-zero lent) refl; named = λ c v. (points v e).there }
 
     pub set_found : (none : Desk → Verdict) (x : ℕ)
         → Settles (Sought h values a code) (λ d. on_found (find code d.entries) (none d) (λ i e. saying (Was e.value 0) (set i x))) lent (record { answer = Was (get_or values s.0 0) 0; plan = Set s x })

@@ -82,28 +82,28 @@ module _ {h : Head} {values : List ℕ} {a : Search} {code : ℕ} (lent : ℕ) w
   }
 
   module _ (p : h.kind ≡ plain_kind) {cell count : ℕ} (e : a ≡ Empty cell count) (stamp n : ℕ) where
-    pub put-none : {k : ℕ} {r : Decision} → k ≡ pushes h → r ≡ admitted h lent k (entry code stamp n 0) (New k) → Settles (Sought h values a code) (put_call code stamp n) lent r
-    put-none z w = on_plain_lem lent _ p (if_absent lent _ _ e (comes_in (entry code stamp n 0) New (rw z at w)))
+    pub put_none : {k : ℕ} {r : Decision} → k ≡ pushes h → r ≡ admitted h lent k (entry code stamp n 0) (New k) → Settles (Sought h values a code) (put_call code stamp n) lent r
+    put_none z w = on_plain_lem lent _ p (if_absent lent _ _ e (comes_in (entry code stamp n 0) New (rw z at w)))
 
-    pub modify-none : {r : Decision} → r ≡ entered h lent code stamp n → Settles (Sought h values a code) (put_or_modify_call code stamp n) lent r
-    modify-none w = on_plain_lem lent _ p (if_absent lent _ _ e (comes_in (entry code stamp n 0) (Now n true) w))
+    pub modify_none : {r : Decision} → r ≡ entered h lent code stamp n → Settles (Sought h values a code) (put_or_modify_call code stamp n) lent r
+    modify_none w = on_plain_lem lent _ p (if_absent lent _ _ e (comes_in (entry code stamp n 0) (Now n true) w))
 
-    pub try-none-over : (most : ℕ) {r : Decision} → most < n → r ≡ denied OverCeiling → Settles (Sought h values a code) (try_put_or_modify_call code stamp n most) lent r
-    try-none-over most o w = on_plain_lem lent _ p (if_absent lent _ _ e (rw (lt-ltb most n o) (says _ lent w)))
+    pub try_none_over : (most : ℕ) {r : Decision} → most < n → r ≡ denied OverCeiling → Settles (Sought h values a code) (try_put_or_modify_call code stamp n most) lent r
+    try_none_over most o w = on_plain_lem lent _ p (if_absent lent _ _ e (rw (lt-ltb most n o) (says _ lent w)))
 
-    pub try-none : (most : ℕ) {r : Decision} → n ≤ most → r ≡ entered h lent code stamp n → Settles (Sought h values a code) (try_put_or_modify_call code stamp n most) lent r
-    try-none most o w = on_plain_lem lent _ p (if_absent lent _ _ e (rw (le-ltb most n o) (modify-none w)))
+    pub try_none : (most : ℕ) {r : Decision} → n ≤ most → r ≡ entered h lent code stamp n → Settles (Sought h values a code) (try_put_or_modify_call code stamp n most) lent r
+    try_none most o w = on_plain_lem lent _ p (if_absent lent _ _ e (rw (le-ltb most n o) (modify_none w)))
 
   module _ (p : h.kind ≡ plain_kind) {s : Slot} {cell count : ℕ} (e : a ≡ FoundSlot s cell count) (stamp n : ℕ) where
-    pub modify-found : {r : Decision} → r ≡ modified s (get_or values s.0 0) n → Settles (Sought h values a code) (put_or_modify_call code stamp n) lent r
-    modify-found w = on_plain_lem lent _ p
+    pub modify_found : {r : Decision} → r ≡ modified s (get_or values s.0 0) n → Settles (Sought h values a code) (put_or_modify_call code stamp n) lent r
+    modify_found w = on_plain_lem lent _ p
         (record { means = λ c v. rw ((points v e).found, leb-zero lent, w) refl; named = λ c v. rw w (points v e).there })
 
     module _ (most : ℕ) {t : Bool} (z : t ≡ ltb most (get_or values s.0 0 + n)) where
-      pub try-found-over : t ≡ true → Settles (Sought h values a code) (try_put_or_modify_call code stamp n most) lent (record { answer = No OverCeiling; plan = Raise s })
-      try-found-over y = on_plain_lem lent _ p
+      pub try_found_over : t ≡ true → Settles (Sought h values a code) (try_put_or_modify_call code stamp n most) lent (record { answer = No OverCeiling; plan = Raise s })
+      try_found_over y = on_plain_lem lent _ p
           (record { means = λ c v. rw ((points v e).found, sym z ∙ y, leb-zero lent) refl; named = λ c v. (points v e).there })
 
-      pub try-found : {r : Decision} → t ≡ false → r ≡ modified s (get_or values s.0 0) n → Settles (Sought h values a code) (try_put_or_modify_call code stamp n most) lent r
-      try-found y w = on_plain_lem lent _ p
-          (record { means = λ c v. rw ((points v e).found, sym z ∙ y) (rw (points v e).found at ((modify-found w).means c v)); named = (modify-found w).named })
+      pub try_found : {r : Decision} → t ≡ false → r ≡ modified s (get_or values s.0 0) n → Settles (Sought h values a code) (try_put_or_modify_call code stamp n most) lent r
+      try_found y w = on_plain_lem lent _ p
+          (record { means = λ c v. rw ((points v e).found, sym z ∙ y) (rw (points v e).found at ((modify_found w).means c v)); named = (modify_found w).named })

@@ -22,7 +22,7 @@ use Rattle.table.specs.declared.Search.TheVariants.{Found as FoundSlot, Empty}
 use Rattle.rows.specs.Views.{Forward, Weighted}
 use Rattle.rows.specs.Answers.{removed, Budgeted, Leaves, Removes}
 use Rattle.model.proofs.Handing.{oldest_length}
-use Rattle.rows.proofs.Callers.{budgeted, leaves, budgeted-but, leaves-but}
+use Rattle.rows.proofs.Callers.{budgeted, leaves, budgeted_but, leaves_but}
 use Rattle.plan.specs.declared.Decision.{Decision}
 use Rattle.plan.specs.declared.Plan.TheVariants.{Replace, Fit, Sweep}
 use Rattle.plan.specs.Plans.{denied, place_of}
@@ -43,25 +43,25 @@ module _ {h : Head} {values weights prevs : List ℕ} {a : Search} (e : Row) whe
   loaded_budgeted s = budgeted s.seen.weighted.backward.described
 
   pub loaded_but : {s : Slot} {cell count : ℕ} → a ≡ FoundSlot s cell count → Some (Loaded h values weights prevs a e.code.0) → Budgeted h weights prevs s.0
-  loaded_but y x = budgeted-but x.seen.weighted.backward.described _ _ (points x.seen.searched y).there
+  loaded_but y x = budgeted_but x.seen.weighted.backward.described _ _ (points x.seen.searched y).there
 
   -- 3, and 4
   module _ (lent : ℕ) {t : Bool} (q : t ≡ wrong_weight (kind_of h.kind) e.weight) where
-    weight-test : (c : Cache) → Loaded h values weights prevs a e.code.0 c → wrong_weight c.desk.kind e.weight ≡ t
-    weight-test c v =
+    weight_test : (c : Cache) → Loaded h values weights prevs a e.code.0 c → wrong_weight c.desk.kind e.weight ≡ t
+    weight_test c v =
         sym (q ∙ ap (λ (k : ℕ). wrong_weight (kind_of k) e.weight) v.searched.described.kind ∙ ap (λ (k : Kind). wrong_weight k e.weight) (kind_of_lem c.desk.kind))
 
-    pub wrong-kind : {r : Decision} → t ≡ true → r ≡ denied WrongKind
+    pub wrong_kind_lem : {r : Decision} → t ≡ true → r ≡ denied WrongKind
         → Settles (Loaded h values weights prevs a e.code.0) (put_with_weight_call e.code.0 e.stamp e.value e.weight) lent r
-    wrong-kind y w = record {
-      means = λ c s. rw (weight-test c s ∙ y, leb-zero lent, w) refl;
+    wrong_kind_lem y w = record {
+      means = λ c s. rw (weight_test c s ∙ y, leb-zero lent, w) refl;
       named = λ c s. rw w tt;
     }
 
-    pub too-heavy : {r : Decision} → t ≡ false → h.capacity ≤ e.weight → r ≡ denied TooHeavy
+    pub too_heavy_lem : {r : Decision} → t ≡ false → h.capacity ≤ e.weight → r ≡ denied TooHeavy
         → Settles (Loaded h values weights prevs a e.code.0) (put_with_weight_call e.code.0 e.stamp e.value e.weight) lent r
-    too-heavy n o w = record {
-      means = λ c s. rw (weight-test c s ∙ n, le-leb c.desk.capacity e.weight (omega (arith, s.searched.described.capacity)), leb-zero lent, w) refl;
+    too_heavy_lem n o w = record {
+      means = λ c s. rw (weight_test c s ∙ n, le-leb c.desk.capacity e.weight (omega (arith, s.searched.described.capacity)), leb-zero lent, w) refl;
       named = λ c s. rw w tt;
     }
 
@@ -69,10 +69,10 @@ module _ {h : Head} {values weights prevs : List ℕ} {a : Search} (e : Row) whe
       budget : (c : Cache) → Loaded h values weights prevs a e.code.0 c → h.capacity - 1 - e.weight ≡ beside e.weight c.desk
       budget c s = ap (λ (b : ℕ). b - 1 - e.weight) s.searched.described.capacity
 
-      pub weighed-none : {cell count k : ℕ} {r : Decision} → a ≡ Empty cell count → Leaves h weights prevs (h.capacity - 1 - e.weight) none_mark k
+      pub weighed_none : {cell count k : ℕ} {r : Decision} → a ≡ Empty cell count → Leaves h weights prevs (h.capacity - 1 - e.weight) none_mark k
           → r ≡ admitted h lent k e (New k)
           → Settles (Loaded h values weights prevs a e.code.0) (put_with_weight_call e.code.0 e.stamp e.value e.weight) lent r
-      weighed-none {k = k} y l w =
+      weighed_none {k = k} y l w =
           let many : (c : Cache) → Loaded h values weights prevs a e.code.0 c → k ≡ leaving (beside e.weight c.desk) c.desk.entries =
           λ c s. leaves s.weighted.backward.described l ∙ ap (λ (b : ℕ). leaving b c.desk.entries) (budget c s) in
           let few : (c : Cache) → Loaded h values weights prevs a e.code.0 c → k ≤ length c.desk.entries =
@@ -81,19 +81,19 @@ module _ {h : Head} {values weights prevs : List ℕ} {a : Search} (e : Row) whe
             means = λ c s.
                 let d = s.searched.described in
                 let v : put_with_weight_call e.code.0 e.stamp e.value e.weight c.desk ≡ admit k e (New k) c.desk =
-                rw (weight-test c s ∙ n, lt-leb c.desk.capacity e.weight (omega (arith, d.capacity)), misses s.searched y, many c s) refl in
+                rw (weight_test c s ∙ n, lt-leb c.desk.capacity e.weight (omega (arith, d.capacity)), misses s.searched y, many c s) refl in
                 ap (λ (x : Verdict). handed lent x) v ∙ rw w (admitted_means d lent k e (New k) (few c s));
             named = λ c s. rw w (admitted_named s.searched.described lent k e (New k) (few c s));
           }
 
-      pub weighed-found : {s : Slot} {cell count k : ℕ} {r : Decision} → a ≡ FoundSlot s cell count → Leaves h weights prevs (h.capacity - 1 - e.weight) s.0 k
+      pub weighed_found : {s : Slot} {cell count k : ℕ} {r : Decision} → a ≡ FoundSlot s cell count → Leaves h weights prevs (h.capacity - 1 - e.weight) s.0 k
           → r ≡ fitted lent k (record { answer = Was (get_or values s.0 0) k; plan = Replace s k e })
           → Settles (Loaded h values weights prevs a e.code.0) (put_with_weight_call e.code.0 e.stamp e.value e.weight) lent r
-      weighed-found {s} {k = k} y l w =
+      weighed_found {s} {k = k} y l w =
           let many : (c : Cache) → Loaded h values weights prevs a e.code.0 c
           → k ≡ leaving (beside e.weight c.desk) (without (place_of s.0 c.slots.order) c.desk.entries) =
           λ c x.
-          leaves-but x.weighted.backward.described _ s.0 (points x.searched y).there l
+          leaves_but x.weighted.backward.described _ s.0 (points x.searched y).there l
           ∙ ap (λ (b : ℕ). leaving b (without (place_of s.0 c.slots.order) c.desk.entries)) (budget c x) in
           let few : (c : Cache) → Loaded h values weights prevs a e.code.0 c → k ≤ length (without (place_of s.0 c.slots.order) c.desk.entries) =
           λ c x. rw (many c x) (leaving_most (beside e.weight c.desk) (without (place_of s.0 c.slots.order) c.desk.entries)) in
@@ -102,7 +102,7 @@ module _ {h : Head} {values weights prevs : List ℕ} {a : Search} (e : Row) whe
                 let i : ℕ = place_of s.0 c.slots.order in
                 let u : Verdict = record { answer = Was (get_or values s.0 0) k; rows = oldest k (without i c.desk.entries); move = replace i k e } in
                 let v : put_with_weight_call e.code.0 e.stamp e.value e.weight c.desk ≡ u =
-                rw (weight-test c x ∙ n, lt-leb c.desk.capacity e.weight (omega (arith, x.searched.described.capacity)), (points x.searched y).found, many c x) refl in
+                rw (weight_test c x ∙ n, lt-leb c.desk.capacity e.weight (omega (arith, x.searched.described.capacity)), (points x.searched y).found, many c x) refl in
                 ap (λ (g : Verdict). handed lent g) v
                 ∙ rw w (fitted_means c lent k u (record { answer = Was (get_or values s.0 0) k; plan = Replace s k e }) (oldest_length k (without i c.desk.entries) (few c x)) refl);
             named = λ c x. rw w (fitted_named c lent k (record { answer = Was (get_or values s.0 0) k; plan = Replace s k e }) ((points x.searched y).there, few c x));

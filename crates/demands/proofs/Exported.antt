@@ -90,18 +90,18 @@ module _ (w : Lists) (long : 9 ≤ length w.head) (sound : Sound (found w)) (x :
         subst (λ (h : Head). Calls asked (under h w) after x.lent x.rows k.said)
         (head_read w.head (length x.answer) long room) k.calls
 
-    after-sound : Sound after
-    after-sound = record { cache = _; described = (called.serves.sound sound.cache sound.described).left }
+    after_sound : Sound after
+    after_sound = record { cache = _; described = (called.serves.sound sound.cache sound.described).left }
 
     -- it is not refused with 2
-    not-two : x.number ≡ 2 → ⊥
-    not-two e =
+    not_two : x.number ≡ 2 → ⊥
+    not_two e =
         never_2 asked (shortest x.lent) sound.cache
         (sym (called.serves.sound sound.cache sound.described).answer ∙ two_unsound k.said (sym k.number ∙ e))
 
     -- and the next call finds what it left
     found_after : found x.left ≡ after
-    found_after = ap (λ (h : Head). under h x.left) (head_again after after-sound w.head x.left.head x.number not-two long k.written)
+    found_after = ap (λ (h : Head). under h x.left) (head_again after after_sound w.head x.left.head x.number not_two long k.written)
 
     long_after : 9 ≤ length x.left.head
     long_after = subst (λ (n : ℕ). 9 ≤ n) (sym (ap length k.written ∙ left_long x.number w.head k.left)) long
@@ -131,7 +131,7 @@ export_run w long sound (x ∷ xs) r = by x.reads r.1 (λ l s. export_run x.left
         let e = found_after w long sound x r.0 k in (
           call_contract (called w long sound x r.0 k),
           subst (λ (s : State). Run s (made_in x.left xs r.2)) e
-              (more (long_after w long sound x r.0 k) (subst Sound (sym e) (after-sound w long sound x r.0 k))),
+              (more (long_after w long sound x r.0 k) (subst Sound (sym e) (after_sound w long sound x r.0 k))),
         )
 
 -- ---- from opening on

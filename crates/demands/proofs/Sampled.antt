@@ -143,14 +143,14 @@ pub opened₀ : Opens plain_kind 2 2 lists₀ state₀ (Began state₀.head)
 unfolding opening walk
 opened₀ = record {
   opens = λ x e. (refl, subst (Means state₀) (opened_one e) (means_computed state₀ sound₀), record { codes = tail₂; stamps = tail₂; values = tail₂; weights = tail₂; nexts = tail₂; prevs = tail₂; stacks = tail₂; table = tail₄ });
-  refuses = λ r e. absurd (opened-not e);
+  refuses = λ r e. absurd (opened_not e);
 }
   where
     opened_one : {x : Cache} → opened (fresh plain 2 2) ≡ opened x → fresh plain 2 2 ≡ x
     opened_one e = cc
 
-    opened-not : {r : Refusal} → opened (fresh plain 2 2) ≡ refused r → ⊥
-    opened-not e = let z : ◌≡◌ {A = ℕ} 0 1 = cc in omega arith
+    opened_not : {r : Refusal} → opened (fresh plain 2 2) ≡ refused r → ⊥
+    opened_not e = let z : ◌≡◌ {A = ℕ} 0 1 = cc in omega arith
 
 abbrev pub day₈ : Day plain_kind 2 2
 day₈ = record { lists = lists₀; numbers = refl; begun = state₀; said = Began state₀.head; opens = opened₀; gave = refl; calls = calls₈; run = run₈ }

@@ -86,10 +86,10 @@ module _ {h : Head} {nx pv st o free : List ℕ} (l : Linked h nx pv st o free [
 
   module _ (f : Fields) where
     -- slots on the stack and from top on are blank: all that are not in the order are
-    pub blanks-are : all_from h.depth.0 0 (stack_blank f st) ≡ true → all_from (h.slots - h.top.0) h.top.0 (blank_at f) ≡ true
+    pub blanks_are : all_from h.depth.0 0 (stack_blank f st) ≡ true → all_from (h.slots - h.top.0) h.top.0 (blank_at f) ≡ true
         → (u : ℕ) → u < h.slots → count u o ≡ 0 → entry_in f u ≡ blank
     unfolding stack_blank
-    blanks-are a b u k z =
+    blanks_are a b u k z =
         ⊎_elim
         (λ (t : u < h.top.0).
         let p = counted_at u free (omega (arith, l.each u, below_in u h.top.0 t)) in
@@ -101,15 +101,15 @@ module _ {h : Head} {nx pv st o free : List ℕ} (l : Linked h nx pv st o free [
 
     -- and all of them blank: so are those on the stack, and those from top on
     module _ (b : (u : ℕ) → u < h.slots → count u o ≡ 0 → entry_in f u ≡ blank) where
-      pub are-stacked : all_from h.depth.0 0 (stack_blank f st) ≡ true
+      pub are_stacked : all_from h.depth.0 0 (stack_blank f st) ≡ true
       unfolding stack_blank
-      are-stacked =
+      are_stacked =
           all_of h.depth.0 0 _ (λ k lo hi.
           let u : ℕ = get_or st k 0 in
           let i : k < h.depth.0 = omega arith in
           blank_passes f u (b u (stack_below k i) (omega (arith, once l u, on_stack k i))))
 
-      pub are-rest : all_from (h.slots - h.top.0) h.top.0 (blank_at f) ≡ true
-      are-rest =
+      pub are_rest : all_from (h.slots - h.top.0) h.top.0 (blank_at f) ≡ true
+      are_rest =
           all_of (h.slots - h.top.0) h.top.0 _ (λ u lo hi.
           blank_passes f u (b u (omega (arith, l.fit)) (omega (arith, l.each u, below_out u h.top.0 lo))))

@@ -89,11 +89,11 @@ module _ {cells : List ℕ} {m n full known i : ℕ} (wide : m ≤ length cells)
 
   -- all are counted
   module _ (live : ℕ) (end : m ≤ i) where
-    pub tally-stray : (full ≡ known → ⊥) → false ≡ counts live (tallied n (take m cells))
-    tally-stray d = counts_stray (v.wrong (omega (arith, v.known_le))) live refl
+    pub tally_stray : (full ≡ known → ⊥) → false ≡ counts live (tallied n (take m cells))
+    tally_stray d = counts_stray (v.wrong (omega (arith, v.known_le))) live refl
 
-    pub tally-all : full ≡ known → eqb full live ≡ counts live (tallied n (take m cells))
-    tally-all e = counts_same (counted_all n m cells wide end (v.right (sym e))) refl refl
+    pub tally_all : full ≡ known → eqb full live ≡ counts live (tallied n (take m cells))
+    tally_all e = counts_same (counted_all n m cells wide end (v.right (sym e))) refl refl
 
 -- ---- another bound
 

@@ -29,7 +29,7 @@ use Rattle.list.proofs.Decide.{links_sound, sound_links}
 use Rattle.table.specs.Sound as table
 use Rattle.table.specs.Links.{Listed}
 use Rattle.table.specs.Acts.{Decides, tallied, counts, all_standing}
-use Rattle.table.proofs.Checked.{counts_open, sound-counts, sound_standing, inspect-passed, tested-sound}
+use Rattle.table.proofs.Checked.{counts_open, sound_counts, sound_standing, inspect_passed, tested_sound}
 use Rattle.store.specs.Lengths.{all_long, AllReach}
 use Rattle.store.specs.Acts.{Writable}
 use Rattle.store.specs.State.{entry_in, blank, gather, Describes, Whole}
@@ -39,10 +39,10 @@ use Rattle.store.proofs.Described.{order_live}
 use Rattle.store.proofs.Walked.{slot_below, walk_listed}
 use Rattle.inspect.specs.Tests.{head_ok, used_stands, sum_ok, blank_at, stack_blank, Piled}
 use Rattle.inspect.proofs.Bits.{at}
-use Rattle.inspect.proofs.Blanks.{stack_below, blanks-are, are-stacked, are-rest}
+use Rattle.inspect.proofs.Blanks.{stack_below, blanks_are, are_stacked, are_rest}
 use Rattle.inspect.proofs.Sums.{sum_is, sum_passes, total, total_order}
 use Rattle.inspect.proofs.Counts.{counts_below, counts_wider}
-use Rattle.inspect.proofs.Used.{used-standing, standing-used}
+use Rattle.inspect.proofs.Used.{used_standing, standing_used}
 use Rattle.inspect.proofs.Orders.{codes_once, slot_once}
 use Rattle.inspect.proofs.Numbers.{Numbered, kind_number_lem, kind_plain, number_plain, number_small, numbered, head_passes}
 
@@ -106,8 +106,8 @@ module _ (h : Head) (f : Fields) (nx pv st cells : List ℕ) where
     d : Describes h f nx pv st cells w.cache
     d = w.described
 
-    whole-head : head_ok h ≡ true
-    whole-head = head_passes h (record {
+    whole_head : head_ok h ≡ true
+    whole_head = head_passes h (record {
       kind = omega (arith, d.kind, number_small cache.desk.kind);
       capacity = (omega (arith, d.capacity, d.lawful.capacity.0), omega (arith, d.capacity, d.lawful.capacity.1));
       slots = (omega (arith, d.room, d.lawful.room.0), omega (arith, d.room, d.lawful.room.1));
@@ -115,13 +115,13 @@ module _ (h : Head) (f : Fields) (nx pv st cells : List ℕ) where
       light = λ q. d.weight ∙ d.lawful.light (number_plain cache.desk.kind (sym d.kind ∙ q));
     })
 
-    whole-lengths : all_long h.slots f nx pv st cells ≡ true
-    whole-lengths =
+    whole_lengths : all_long h.slots f nx pv st cells ≡ true
+    whole_lengths =
         let l = d.links.long in
         reach_all h.slots f nx pv st cells (record { reach = d.reach; nexts = l.nexts; prevs = l.prevs; stacks = l.stacks; table = d.table.tidy.wide })
 
-    whole-links : list.Sound h nx pv st
-    whole-links = record { order = cache.slots.order; free = cache.slots.free; linked = d.links }
+    whole_links : list.Sound h nx pv st
+    whole_links = record { order = cache.slots.order; free = cache.slots.free; linked = d.links }
 
     some : 1 ≤ h.slots
     some = omega (arith, d.room, d.lawful.room.0)
@@ -129,34 +129,34 @@ module _ (h : Head) (f : Fields) (nx pv st cells : List ℕ) where
     listed : Listed h.slots cells f.codes nx walked
     listed = walk_listed d.links f cells d.reach some d.table.tidy.wide
 
-    whole-table : tables walked
-    whole-table = subst tables (order_is d.links) d.table
+    whole_table : tables walked
+    whole_table = subst tables (order_is d.links) d.table
 
     whole_cells : cells_full ≡ true
     whole_cells =
         counts_below (2 * h.slots) cells h.live (length f.codes) h.slots d.table.tidy.wide (λ p l n. slot_below d.links (get_or cells p 0) (d.table.only p l n))
-        (sound-counts (home_lt some) listed (walk_length _ _ _) whole-table)
+        (sound_counts (home_lt some) listed (walk_length _ _ _) whole_table)
 
-    whole-used : used_stand ≡ true
-    whole-used =
-        standing-used (home_of h.slots) (2 * h.slots) cells f.codes d.links
-        (subst (λ (o : List ℕ). stands o ≡ true) (sym (order_is d.links)) (sound_standing (home_lt some) listed whole-table))
+    whole_used : used_stand ≡ true
+    whole_used =
+        standing_used (home_of h.slots) (2 * h.slots) cells f.codes d.links
+        (subst (λ (o : List ℕ). stands o ≡ true) (sym (order_is d.links)) (sound_standing (home_lt some) listed whole_table))
 
-    whole-weights : weights_fit ≡ true
-    whole-weights = sum_passes f.weights h.slots 0 h.weight (d.weight ∙ ap weighs (sym d.entries) ∙ sym (whole_total d.links d.blanks))
+    whole_weights : weights_fit ≡ true
+    whole_weights = sum_passes f.weights h.slots 0 h.weight (d.weight ∙ ap weighs (sym d.entries) ∙ sym (whole_total d.links d.blanks))
 
-    whole-stacked : stack_blanks ≡ true
-    whole-stacked = are-stacked d.links f d.blanks
+    whole_stacked : stack_blanks ≡ true
+    whole_stacked = are_stacked d.links f d.blanks
 
-    whole-rest : rest_blank ≡ true
-    whole-rest = are-rest d.links f d.blanks
+    whole_rest : rest_blank ≡ true
+    whole_rest = are_rest d.links f d.blanks
 
-    pub whole-passes : passes ≡ true
-    whole-passes =
-        and_in _ _ whole-head
-        (and_in _ _ whole-lengths
-        (and_in _ _ (sound_links h nx pv st whole-links)
-        (and_in _ _ whole_cells (and_in _ _ whole-used (and_in _ _ whole-weights (and_in _ _ whole-stacked whole-rest))))))
+    pub whole_passes : passes ≡ true
+    whole_passes =
+        and_in _ _ whole_head
+        (and_in _ _ whole_lengths
+        (and_in _ _ (sound_links h nx pv st whole_links)
+        (and_in _ _ whole_cells (and_in _ _ whole_used (and_in _ _ whole_weights (and_in _ _ whole_stacked whole_rest))))))
 
   -- ---- what passes is a cache
 
@@ -168,8 +168,8 @@ module _ (h : Head) (f : Fields) (nx pv st cells : List ℕ) where
     abbrev linked : list.Linked h nx pv st y.links.order y.links.free []
     linked = y.links.linked
 
-    need-listed : Listed h.slots cells f.codes nx walked
-    need-listed = walk_listed linked f cells y.lists.reach y.head.slots.0 y.lists.table
+    need_listed : Listed h.slots cells f.codes nx walked
+    need_listed = walk_listed linked f cells y.lists.reach y.head.slots.0 y.lists.table
 
     module _ (s : weights_fit ≡ true) (b : stack_blanks ≡ true) (c : rest_blank ≡ true) (t : tables order) where
       -- the cache
@@ -180,7 +180,7 @@ module _ (h : Head) (f : Fields) (nx pv st cells : List ℕ) where
       }
 
       blanks : (u : ℕ) → u < h.slots → count u order ≡ 0 → entry_in f u ≡ blank
-      blanks = blanks-are linked f b c
+      blanks = blanks_are linked f b c
 
       weight : h.weight ≡ weighs (gather f order)
       weight = sum_is f.weights h.slots 0 h.weight s ∙ whole_total linked blanks
@@ -188,8 +188,8 @@ module _ (h : Head) (f : Fields) (nx pv st cells : List ℕ) where
       many : length (gather f order) ≡ h.live
       many = omega (arith, map_length (gathering f) order, linked.live)
 
-      tested-whole : Whole h f nx pv st cells
-      tested-whole = record {
+      tested_whole : Whole h f nx pv st cells
+      tested_whole = record {
         cache = described;
         described = record {
           kind = kind_number_lem h.kind y.head.kind;
@@ -223,13 +223,13 @@ module _ (h : Head) (f : Fields) (nx pv st cells : List ℕ) where
         counts_open h.live y.lists.table (omega (arith, linked.live, linked.size, linked.fit, y.head.slots.0)) (coded k)
 
     -- the first three passed, and so did the others
-    framed-whole : cells_full ≡ true → used_stand ≡ true → weights_fit ≡ true → stack_blanks ≡ true → rest_blank ≡ true → Whole h f nx pv st cells
-    framed-whole k v g u x =
+    framed_whole : cells_full ≡ true → used_stand ≡ true → weights_fit ≡ true → stack_blanks ≡ true → rest_blank ≡ true → Whole h f nx pv st cells
+    framed_whole k v g u x =
         let z = home_lt y.head.slots.0 in
         let e : stands walked ≡ true =
-        subst (λ (o : List ℕ). stands o ≡ true) (order_is linked) (used-standing (home_of h.slots) (2 * h.slots) cells f.codes linked v) in
-        tested-whole g u x
-        (subst tables (sym (order_is linked)) (tested-sound z need-listed (inspect-passed z need-listed (walk_length _ _ _) (coded k)) e))
+        subst (λ (o : List ℕ). stands o ≡ true) (order_is linked) (used_standing (home_of h.slots) (2 * h.slots) cells f.codes linked v) in
+        tested_whole g u x
+        (subst tables (sym (order_is linked)) (tested_sound z need_listed (inspect_passed z need_listed (walk_length _ _ _) (coded k)) e))
 
   pub passed_whole : passes ≡ true → Whole h f nx pv st cells
   passed_whole e =
@@ -240,7 +240,7 @@ module _ (h : Head) (f : Fields) (nx pv st cells : List ℕ) where
       let v = both used_stand _ k.1 in
       let g = both weights_fit _ v.1 in
       let u = both stack_blanks _ g.1 in
-      framed-whole (record { head = numbered h a.0; lists = all_reach h.slots f nx pv st cells b.0; links = links_sound h nx pv st c.0 })
+      framed_whole (record { head = numbered h a.0; lists = all_reach h.slots f nx pv st cells b.0; links = links_sound h nx pv st c.0 })
       k.0 v.0 g.0 u.0 u.1
 
   -- ---- as the code runs them: a test's answer b, and whether it was no
@@ -249,30 +249,30 @@ module _ (h : Head) (f : Fields) (nx pv st cells : List ℕ) where
     refuse : {t : Bool} → (Whole h f nx pv st cells → t ≡ true) → b ≡ t → not b ≡ true → Decides false (Whole h f nx pv st cells)
     refuse p e n = record { yes = λ z. absurd (false≢true z); no = λ w. sym (not-true b n) ∙ e ∙ p w }
 
-    pub no-head : b ≡ head_ok h → not b ≡ true → Decides false (Whole h f nx pv st cells)
-    no-head = refuse whole-head
+    pub no_head : b ≡ head_ok h → not b ≡ true → Decides false (Whole h f nx pv st cells)
+    no_head = refuse whole_head
 
     pub no_lengths : b ≡ all_long h.slots f nx pv st cells → not b ≡ true → Decides false (Whole h f nx pv st cells)
-    no_lengths = refuse whole-lengths
+    no_lengths = refuse whole_lengths
 
-    pub no-links : Inspected h nx pv st b → not b ≡ true → Decides false (Whole h f nx pv st cells)
-    no-links i n = record { yes = λ z. absurd (false≢true z); no = λ w. sym (not-true b n) ∙ i.passes (whole-links w) }
+    pub no_links : Inspected h nx pv st b → not b ≡ true → Decides false (Whole h f nx pv st cells)
+    no_links i n = record { yes = λ z. absurd (false≢true z); no = λ w. sym (not-true b n) ∙ i.passes (whole_links w) }
 
     pub no_cells : b ≡ cells_full → not b ≡ true → Decides false (Whole h f nx pv st cells)
     no_cells = refuse whole_cells
 
-    pub no-used : b ≡ used_stand → not b ≡ true → Decides false (Whole h f nx pv st cells)
-    no-used = refuse whole-used
+    pub no_used : b ≡ used_stand → not b ≡ true → Decides false (Whole h f nx pv st cells)
+    no_used = refuse whole_used
 
-    pub no-weights : b ≡ weights_fit → not b ≡ true → Decides false (Whole h f nx pv st cells)
-    no-weights = refuse whole-weights
+    pub no_weights : b ≡ weights_fit → not b ≡ true → Decides false (Whole h f nx pv st cells)
+    no_weights = refuse whole_weights
 
-    pub no-stacked : b ≡ stack_blanks → not b ≡ true → Decides false (Whole h f nx pv st cells)
-    no-stacked = refuse whole-stacked
+    pub no_stacked : b ≡ stack_blanks → not b ≡ true → Decides false (Whole h f nx pv st cells)
+    no_stacked = refuse whole_stacked
 
     -- all tests but the last passed
-    pub by-rest : Framed → cells_full ≡ true → used_stand ≡ true → weights_fit ≡ true → stack_blanks ≡ true → b ≡ rest_blank → Decides b (Whole h f nx pv st cells)
-    by-rest y k v g u e = record { yes = λ z. framed-whole y k v g u (sym e ∙ z); no = λ w. e ∙ whole-rest w }
+    pub by_rest : Framed → cells_full ≡ true → used_stand ≡ true → weights_fit ≡ true → stack_blanks ≡ true → b ≡ rest_blank → Decides b (Whole h f nx pv st cells)
+    by_rest y k v g u e = record { yes = λ z. framed_whole y k v g u (sym e ∙ z); no = λ w. e ∙ whole_rest w }
 
   -- the first three, passed
   pub framed : {a b c : Bool} → a ≡ head_ok h → b ≡ all_long h.slots f nx pv st cells → Inspected h nx pv st c → not a ≡ false → not b ≡ false → not c ≡ false → Framed

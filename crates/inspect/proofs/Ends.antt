@@ -79,8 +79,8 @@ module _ (nx pv : List ℕ) (top back : ℕ) where
   -- the whole test is the one behind slot a; behind slot b `done` slots pass; where the whole passes, b is `more` links on from a
   pub record Meeting (whole : Bool) (more a b : ℕ) : Type 0 where
     done : ℕ
-    pub low-a : a < top
-    pub low-b : b < top
+    pub low_a : a < top
+    pub low_b : b < top
     same : whole ≡ W (more + done) a (next a)
     tail : W done b (next b) ≡ true
     met : whole ≡ true → iter more a ≡ b
@@ -91,42 +91,42 @@ module _ (nx pv : List ℕ) (top back : ℕ) where
     passes w = sym v.same ∙ w
 
     module _ (h : 1 < more) where
-      met-one : whole ≡ true → iter (suc (more - 1)) a ≡ b
-      met-one w = let z : suc (more - 1) ≡ more = omega arith in ap (λ (j : ℕ). iter j a) z ∙ v.met w
+      met_one : whole ≡ true → iter (suc (more - 1)) a ≡ b
+      met_one w = let z : suc (more - 1) ≡ more = omega arith in ap (λ (j : ℕ). iter j a) z ∙ v.met w
 
-      is-ahead : whole ≡ true → before b ≡ iter (more - 1) a
-      is-ahead w = ap before (sym (met-one w)) ∙ w_prev (more + v.done) a (passes w) (more - 1) (omega arith)
+      is_ahead : whole ≡ true → before b ≡ iter (more - 1) a
+      is_ahead w = ap before (sym (met_one w)) ∙ w_prev (more + v.done) a (passes w) (more - 1) (omega arith)
 
-      pub far-a : top ≤ next a → false ≡ whole
-      far-a g = sym (v.same ∙ walk_far nx pv top back (more + v.done) a (next a) (omega arith) g)
+      pub far_a : top ≤ next a → false ≡ whole
+      far_a g = sym (v.same ∙ walk_far nx pv top back (more + v.done) a (next a) (omega arith) g)
 
-      pub far-b : top ≤ before b → false ≡ whole
-      far-b g =
+      pub far_b : top ≤ before b → false ≡ whole
+      far_b g =
           not_so (λ w.
           let z : suc (more - 2) ≡ more - 1 = omega arith in
-          let e : before b ≡ iter (suc (more - 2)) a = is-ahead w ∙ ap (λ (j : ℕ). iter j a) (sym z) in
+          let e : before b ≡ iter (suc (more - 2)) a = is_ahead w ∙ ap (λ (j : ℕ). iter j a) (sym z) in
           omega (arith, w_low (more + v.done) a (passes w) (more - 2) (omega arith)))
 
-      pub loose-a : next a < top → (before (next a) ≡ a → ⊥) → false ≡ whole
-      loose-a l n = sym (v.same ∙ walk_miss nx pv top back (more + v.done) a (next a) (omega arith) l n)
+      pub loose_a : next a < top → (before (next a) ≡ a → ⊥) → false ≡ whole
+      loose_a l n = sym (v.same ∙ walk_miss nx pv top back (more + v.done) a (next a) (omega arith) l n)
 
-      pub loose-b : (next (before b) ≡ b → ⊥) → false ≡ whole
-      loose-b n = not_so (λ w. n (ap next (is-ahead w) ∙ sym (iter_next (more - 1) a) ∙ met-one w))
+      pub loose_b : (next (before b) ≡ b → ⊥) → false ≡ whole
+      loose_b n = not_so (λ w. n (ap next (is_ahead w) ∙ sym (iter_next (more - 1) a) ∙ met_one w))
 
       longer : W (suc v.done) (before b) b ≡ true
       unfolding walk_ok
-      longer = and_in _ _ (lt-ltb b top v.low-b) (and_in _ _ (eq-eqb (before b) (before b) refl) v.tail)
+      longer = and_in _ _ (lt-ltb b top v.low_b) (and_in _ _ (eq-eqb (before b) (before b) refl) v.tail)
 
       pub nearer : next a < top → before b < top → before (next a) ≡ a → next (before b) ≡ b → Meeting whole (more - 2) (next a) (before b)
       nearer l m p q = record {
         done = suc v.done;
-        low-a = l;
-        low-b = m;
+        low_a = l;
+        low_b = m;
         same =
             let z : more + v.done - 1 ≡ more - 2 + suc v.done = omega arith in
             v.same ∙ walk_more nx pv top back (more + v.done) a (next a) (omega arith) l p ∙ ap (λ (j : ℕ). W j (next a) (next (next a))) z;
         tail = subst (λ (x : ℕ). W (suc v.done) (before b) x ≡ true) (sym q) longer;
-        met = λ w. let z : suc (more - 2) ≡ more - 1 = omega arith in ap (λ (j : ℕ). iter j a) z ∙ sym (is-ahead w);
+        met = λ w. let z : suc (more - 2) ≡ more - 1 = omega arith in ap (λ (j : ℕ). iter j a) z ∙ sym (is_ahead w);
       }
 
     -- ---- the middle: one slot, or two
@@ -140,15 +140,15 @@ module _ (nx pv : List ℕ) (top back : ℕ) where
         (λ n. ne_eqb a b n ∙ not_so (λ w. n (ap (λ (j : ℕ). iter j a) (sym z) ∙ v.met w)))
         (same? a b)
 
-    pub meet-apart : more ≡ 1 → (next a ≡ b → ⊥) → false ≡ whole
-    meet-apart z n = not_so (λ w. n (ap (λ (j : ℕ). iter j a) (sym z) ∙ v.met w))
+    pub meet_apart : more ≡ 1 → (next a ≡ b → ⊥) → false ≡ whole
+    meet_apart z n = not_so (λ w. n (ap (λ (j : ℕ). iter j a) (sym z) ∙ v.met w))
 
     opened : W (suc v.done) a b ≡ eqb (before b) a
     unfolding walk_ok
-    opened = rw (lt-ltb b top v.low-b, v.tail) (and_yes (eqb (before b) a))
+    opened = rw (lt-ltb b top v.low_b, v.tail) (and_yes (eqb (before b) a))
 
-    pub meet-two : more ≡ 1 → next a ≡ b → eqb (before b) a ≡ whole
-    meet-two z q =
+    pub meet_two : more ≡ 1 → next a ≡ b → eqb (before b) a ≡ whole
+    meet_two z q =
         let y : more + v.done ≡ suc v.done = omega arith in
         sym (v.same ∙ ap (λ (j : ℕ). W j a (next a)) y ∙ ap (W (suc v.done) a) q ∙ opened)
 
@@ -162,8 +162,8 @@ module _ (nx pv : List ℕ) (top back : ℕ) where
   pub apart : {more a : ℕ} → a < top → back < top → next back ≡ none_mark → Meeting (W more a (next a)) more a back
   apart {more} {a} l m q = record {
     done = 0;
-    low-a = l;
-    low-b = m;
+    low_a = l;
+    low_b = m;
     same = let z : more ≡ more + 0 = omega arith in ap (λ (j : ℕ). W j a (next a)) z;
     tail = stops q;
     met = w_iter more a;
@@ -176,37 +176,37 @@ module _ (nx pv : List ℕ) (top back : ℕ) where
     whole = W live none_mark front
 
     -- no slot is live
-    pub none-front : live ≡ 0 → (front ≡ none_mark → ⊥) → false ≡ whole
-    none-front z n = sym (walk_end nx pv top back live none_mark front (omega arith) ∙ rw (ne_eqb front none_mark n) refl)
+    pub none_front : live ≡ 0 → (front ≡ none_mark → ⊥) → false ≡ whole
+    none_front z n = sym (walk_end nx pv top back live none_mark front (omega arith) ∙ rw (ne_eqb front none_mark n) refl)
 
-    pub none-back : live ≡ 0 → front ≡ none_mark → eqb back none_mark ≡ whole
-    none-back z e = eqb_sym back none_mark ∙ sym (walk_end nx pv top back live none_mark front (omega arith) ∙ rw (eq-eqb front none_mark e) refl)
+    pub none_back : live ≡ 0 → front ≡ none_mark → eqb back none_mark ≡ whole
+    none_back z e = eqb_sym back none_mark ∙ sym (walk_end nx pv top back live none_mark front (omega arith) ∙ rw (eq-eqb front none_mark e) refl)
 
     -- some are
     module _ (h : 0 < live) where
-      pub front-far : top ≤ front → false ≡ whole
-      front-far g = sym (walk_far nx pv top back live none_mark front h g)
+      pub front_far : top ≤ front → false ≡ whole
+      front_far g = sym (walk_far nx pv top back live none_mark front h g)
 
       module _ (l : front < top) where
-        pub front-loose : (before front ≡ none_mark → ⊥) → false ≡ whole
-        front-loose n = sym (walk_miss nx pv top back live none_mark front h l n)
+        pub front_loose : (before front ≡ none_mark → ⊥) → false ≡ whole
+        front_loose n = sym (walk_miss nx pv top back live none_mark front h l n)
 
         module _ (p : before front ≡ none_mark) where
-          pub behind-front : whole ≡ W (live - 1) front (next front)
-          behind-front = walk_more nx pv top back live none_mark front h l p
+          pub behind_front : whole ≡ W (live - 1) front (next front)
+          behind_front = walk_more nx pv top back live none_mark front h l p
 
-          pub back-far : top ≤ back → false ≡ whole
-          back-far g =
+          pub back_far : top ≤ back → false ≡ whole
+          back_far g =
               not_so (λ w.
-              let e = w_iter (live - 1) front (sym behind-front ∙ w) in
+              let e = w_iter (live - 1) front (sym behind_front ∙ w) in
               ⊎_elim
               (λ (z : live - 1 ≡ 0). let y : front ≡ back = ap (λ (j : ℕ). iter j front) (sym z) ∙ e in omega arith)
               (λ n.
               let z : suc (live - 2) ≡ live - 1 = omega arith in
               let y : iter (suc (live - 2)) front ≡ back = ap (λ (j : ℕ). iter j front) z ∙ e in
-              omega (arith, w_low (live - 1) front (sym behind-front ∙ w) (live - 2) (omega arith)))
+              omega (arith, w_low (live - 1) front (sym behind_front ∙ w) (live - 2) (omega arith)))
               (same? (live - 1) 0))
 
-          pub back-loose : (next back ≡ none_mark → ⊥) → false ≡ whole
-          back-loose n =
-              not_so (λ w. n (ap next (sym (w_iter (live - 1) front (sym behind-front ∙ w))) ∙ w_stop (live - 1) front (sym behind-front ∙ w)))
+          pub back_loose : (next back ≡ none_mark → ⊥) → false ≡ whole
+          back_loose n =
+              not_so (λ w. n (ap next (sym (w_iter (live - 1) front (sym behind_front ∙ w))) ∙ w_stop (live - 1) front (sym behind_front ∙ w)))

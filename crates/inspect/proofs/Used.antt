@@ -28,7 +28,7 @@ use Rattle.table.specs.declared.Search.TheVariants.{Found}
 use Rattle.table.specs.Cells.{slot_of, wrap}
 use Rattle.table.specs.Sound.{Gapped}
 use Rattle.table.proofs.Ring.{wrap_zero}
-use Rattle.table.proofs.Seek.{lookup-some}
+use Rattle.table.proofs.Seek.{lookup_some}
 use Rattle.table.proofs.Answers.{names_found}
 use Rattle.inspect.specs.Tests.{used_stands}
 
@@ -52,31 +52,31 @@ module _ (home : ℕ → ℕ) (m : ℕ) (cells codes : List ℕ) where
 
   module _ (nx : List ℕ) where
     -- the test, at a slot with the unused mark and at any other
-    pub used-none : (s : ℕ) → get_or nx s 0 ≡ unused_mark → true ≡ used_stands home m cells codes nx s
+    pub used_none : (s : ℕ) → get_or nx s 0 ≡ unused_mark → true ≡ used_stands home m cells codes nx s
     unfolding used_stands
-    used-none s e = rw (eq-eqb (get_or nx s 0) unused_mark e)
+    used_none s e = rw (eq-eqb (get_or nx s 0) unused_mark e)
 
-    pub used-some : (s : ℕ) → (get_or nx s 0 ≡ unused_mark → ⊥) → stands s ≡ used_stands home m cells codes nx s
+    pub used_some : (s : ℕ) → (get_or nx s 0 ≡ unused_mark → ⊥) → stands s ≡ used_stands home m cells codes nx s
     unfolding used_stands
-    used-some s n = rw (ne_eqb (get_or nx s 0) unused_mark n)
+    used_some s n = rw (ne_eqb (get_or nx s 0) unused_mark n)
 
   -- the unused mark tells the slots of the order from the others below top
   module _ {h : Head} {nx pv st o free : List ℕ} (l : Linked h nx pv st o free []) where
-    pub used-standing : all_from h.top.0 0 (used_stands home m cells codes nx) ≡ true → all_standing home m cells codes o ≡ true
-    used-standing e =
+    pub used_standing : all_from h.top.0 0 (used_stands home m cells codes nx) ≡ true → all_standing home m cells codes o ≡ true
+    used_standing e =
         stands_each o (λ s k.
         let c = member_counted s o k in
         let t = in_top l s (omega arith) in
-        used-some nx s (marked_used l s c) ∙ all_at h.top.0 0 _ e s (omega arith) (omega arith))
+        used_some nx s (marked_used l s c) ∙ all_at h.top.0 0 _ e s (omega arith) (omega arith))
 
-    pub standing-used : all_standing home m cells codes o ≡ true → all_from h.top.0 0 (used_stands home m cells codes nx) ≡ true
-    standing-used e =
+    pub standing_used : all_standing home m cells codes o ≡ true → all_from h.top.0 0 (used_stands home m cells codes nx) ≡ true
+    standing_used e =
         all_of h.top.0 0 _ (λ s lo hi.
         split (eqb (get_or nx s 0) unused_mark)
-        (λ t. sym (used-none nx s (eqb-true (get_or nx s 0) unused_mark t)))
+        (λ t. sym (used_none nx s (eqb-true (get_or nx s 0) unused_mark t)))
         (λ t.
         let n = eqb-false (get_or nx s 0) unused_mark t in
-        sym (used-some nx s n)
+        sym (used_some nx s n)
         ∙ each_stands o e s (counted_member s o
         (⊎_elim
         (λ (p : 0 < count s o). p)
@@ -98,5 +98,5 @@ home_stands {n} {x} cells codes s o some real e q =
     let hm : h < 2 * n = home_lt some code in
     let a : get_or cells (wrap (2 * n) (h + 0)) 0 ≡ s = ap (λ (i : ℕ). get_or cells i 0) (wrap_zero (2 * n) h hm ∙ sym e) ∙ q in
     names_found s
-    (lookup-some cells codes (2 * n) h code o hm 0 (omega arith) (λ z. omega arith) (ap (λ (y : ℕ). get_or codes y 0) a)
+    (lookup_some cells codes (2 * n) h code o hm 0 (omega arith) (λ z. omega arith) (ap (λ (y : ℕ). get_or codes y 0) a)
     ∙ ap (λ (y : ℕ). Found (slot_of y) (wrap (2 * n) (h + 0)) (0 + 1)) a)

@@ -48,8 +48,8 @@ module _ (h : Head) (nx pv st : List ℕ) (s : ℕ) (p : Held h nx pv st s) wher
   held_room = room p.linked p.place s p.there
 
   module _ (m : Head) (nx1 pv1 : List ℕ) (u : Unlinked h m nx pv nx1 pv1 s) where
-    pub held-stackable : Stackable m nx1 pv1 st s
-    held-stackable = stackable (u.linked st p.order p.free p.others p.place p.there p.linked)
+    pub held_stackable : Stackable m nx1 pv1 st s
+    held_stackable = stackable (u.linked st p.order p.free p.others p.place p.there p.linked)
 
     pub removed : (r : Head) (nx' pv' st' : List ℕ) → Released m r nx1 pv1 st nx' pv' st' s → Removed h r nx pv st nx' pv' st' s
     removed r nx' pv' st' g = record {
@@ -76,12 +76,12 @@ module _ (h : Head) (nx pv st : List ℕ) (p : Spare h nx pv st) (t : Taken) (st
     prev_tail = tail_at g.rest.slots k.prev_tail;
     stack_tail = g.stack_tail;
     slot = g.slot nx pv;
-    top = λ o f u d. same-top o f u (g.linked nx pv o f u d) ∙ g.top nx pv o f u d;
+    top = λ o f u d. same_top o f u (g.linked nx pv o f u d) ∙ g.top nx pv o f u d;
     linked = λ o f u d.
         subst (λ (j : ℕ). Linked r nx' pv' st' (j ∷ o) (but_last 1 f) u) (g.slot nx pv o f u d)
         (k.linked st' o (but_last 1 f) u (g.linked nx pv o f u d));
     kept = λ o f u d. k.kept st' o (but_last 1 f) u (g.linked nx pv o f u d);
   }
     where
-      same-top : (o f u : List ℕ) → Linked t.head nx pv st' o (but_last 1 f) (t.slot.0 ∷ u) → r.top.0 ≡ t.head.top.0
-      same-top o f u d = omega (arith, d.size, (k.linked st' o (but_last 1 f) u d).size)
+      same_top : (o f u : List ℕ) → Linked t.head nx pv st' o (but_last 1 f) (t.slot.0 ∷ u) → r.top.0 ≡ t.head.top.0
+      same_top o f u d = omega (arith, d.size, (k.linked st' o (but_last 1 f) u d).size)

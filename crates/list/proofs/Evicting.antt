@@ -61,14 +61,14 @@ evicting_first h nx pv st k s = record {
 module _ {h₀ h : Head} {nx₀ pv₀ st₀ nx pv st : List ℕ} {k g : ℕ} (c : Evicting h₀ h nx₀ pv₀ st₀ nx pv st k g) (less : g < k) where
   -- what is left has the back as its last
   module _ (o f t : List ℕ) (w : g < length o) (d : Linked h₀ nx₀ pv₀ st₀ o f t) where
-    now-linked : Linked h nx pv st (but_last g o) (f ++ oldest g o) t
-    now-linked = c.so_far.linked o f t (omega arith) d
+    now_linked : Linked h nx pv st (but_last g o) (f ++ oldest g o) t
+    now_linked = c.so_far.linked o f t (omega arith) d
 
     left : but_last g o ≡ but_last (suc g) o ++ leaver g o ∷ []
     left = but_last_less g o w
 
     back_is : h.back.0 ≡ leaver g o
-    back_is = now-linked.back ∙ ap (last_or none_mark) left ∙ last_append none_mark (but_last (suc g) o) (leaver g o ∷ [])
+    back_is = now_linked.back ∙ ap (last_or none_mark) left ∙ last_append none_mark (but_last (suc g) o) (leaver g o ∷ [])
 
     there : only (length (but_last (suc g) o)) (but_last g o) ≡ h.back.0 ∷ []
     there =
@@ -94,15 +94,15 @@ module _ {h₀ h : Head} {nx₀ pv₀ st₀ nx pv st : List ℕ} {k g : ℕ} (c 
         others = s.others;
         place = length (but_last (suc g) s.order);
         there = there s.order s.free s.others (omega (arith, s.some)) s.linked;
-        linked = now-linked s.order s.free s.others (omega (arith, s.some)) s.linked;
+        linked = now_linked s.order s.free s.others (omega (arith, s.some)) s.linked;
       }
 
   module _ {r : Head} {nx' pv' st' : List ℕ} (m : Removed h r nx pv st nx' pv' st' h.back.0) where
-    next-linked : (o f t : List ℕ) → suc g ≤ length o → Linked h₀ nx₀ pv₀ st₀ o f t → Linked r nx' pv' st' (but_last (suc g) o) (f ++ oldest (suc g) o) t
-    next-linked o f t w d =
+    next_linked : (o f t : List ℕ) → suc g ≤ length o → Linked h₀ nx₀ pv₀ st₀ o f t → Linked r nx' pv' st' (but_last (suc g) o) (f ++ oldest (suc g) o) t
+    next_linked o f t w d =
         subst (λ (l : List ℕ). Linked r nx' pv' st' l (f ++ oldest (suc g) o) t) (shorter o f t w d)
         (subst (λ (l : List ℕ). Linked r nx' pv' st' (without (length (but_last (suc g) o)) (but_last g o)) l t) (longer o f t w d)
-        (m.linked (but_last g o) (f ++ oldest g o) t (length (but_last (suc g) o)) (there o f t w d) (now-linked o f t w d)))
+        (m.linked (but_last g o) (f ++ oldest g o) t (length (but_last (suc g) o)) (there o f t w d) (now_linked o f t w d)))
 
     one_more : Evicted h₀ r nx₀ pv₀ st₀ nx' pv' st' (suc g)
     one_more =
@@ -112,13 +112,13 @@ module _ {h₀ h : Head} {nx₀ pv₀ st₀ nx pv st : List ℕ} {k g : ℕ} (c 
           next_tail = tail_trans e.next_tail (tail_at n m.next_tail);
           prev_tail = tail_trans e.prev_tail (tail_at n m.prev_tail);
           stack_tail = tail_trans e.stack_tail (tail_at n m.stack_tail);
-          linked = next-linked;
+          linked = next_linked;
           kept = λ o f t w d. kept_trans (e.kept o f t (omega arith) d)
-              (m.kept (but_last g o) (f ++ oldest g o) t (length (but_last (suc g) o)) (there o f t w d) (now-linked o f t w d));
+              (m.kept (but_last g o) (f ++ oldest g o) t (length (but_last (suc g) o)) (there o f t w d) (now_linked o f t w d));
         }
 
-    pub evicting-more : Evicting h₀ r nx₀ pv₀ st₀ nx' pv' st' k (g + 1)
-    evicting-more = record {
+    pub evicting_more : Evicting h₀ r nx₀ pv₀ st₀ nx' pv' st' k (g + 1)
+    evicting_more = record {
       within = omega arith;
       start = c.start;
       so_far = subst⁻¹ (λ (j : ℕ). Evicted h₀ r nx₀ pv₀ st₀ nx' pv' st' j) (add-one g) one_more;

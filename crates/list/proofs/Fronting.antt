@@ -32,14 +32,14 @@ module _ (h : Head) (nx pv pv1 nx' pv' : List ℕ) (s bk : ℕ)
     l1 : h.slots ≤ length pv1
     l1 = rw (e1, length_put) d.long.prevs
 
-    front-next : (i : ℕ) → i < h.slots → count i t ≡ 0 → get_or nx' i 0 ≡ next_at (s ∷ o) i
-    front-next i hi z =
+    front_next : (i : ℕ) → i < h.slots → count i t ≡ 0 → get_or nx' i 0 ≡ next_at (s ∷ o) i
+    front_next i hi z =
         rw (en, get_or_put h.slots nx s h.front.0 i d.long.nexts hi, d.front)
         (ifeq_by s i _ _ _ (λ e. sym (ifeq_same s i _ _ e))
         (λ ne. d.nexts i hi (omega (arith, miss s i ne)) ∙ sym (ifeq_other s i _ _ ne)))
 
-    front-prev : (i : ℕ) → i < h.slots → count i t ≡ 0 → get_or pv' i 0 ≡ prev_at none_mark (s ∷ o) i (place_at 0 f i)
-    front-prev i hi z =
+    front_prev : (i : ℕ) → i < h.slots → count i t ≡ 0 → get_or pv' i 0 ≡ prev_at none_mark (s ∷ o) i (place_at 0 f i)
+    front_prev i hi z =
         rw (ev, get_or_put h.slots pv1 s none_mark i l1 hi, e1, get_or_put h.slots pv h.front.0 s i d.long.prevs hi, d.front)
         (ifeq_by s i _ _ _ (λ e. sym (ifeq_same s i _ _ e))
         (λ ne. rw (d.prevs i hi (omega (arith, miss s i ne))) (prev_front o s i (place_at 0 f i) (no_mark i hi)) ∙ sym (ifeq_other s i _ _ ne)))
@@ -49,8 +49,8 @@ module _ (h : Head) (nx pv pv1 nx' pv' : List ℕ) (s bk : ℕ)
         eb ∙ rw d.back (back_front h.slots o s (omega (arith, d.long.small))
         (λ i c. let k : i < h.top.0 = below_lt i h.top.0 (omega (arith, d.each i)) in omega (arith, d.fit)))
 
-    front-linked : Linked (ended h s bk) nx' pv' st (s ∷ o) f t
-    front-linked = record {
+    front_linked : Linked (ended h s bk) nx' pv' st (s ∷ o) f t
+    front_linked = record {
       long = record {
         small = d.long.small;
         nexts = rw (en, length_put) d.long.nexts;
@@ -64,16 +64,16 @@ module _ (h : Head) (nx pv pv1 nx' pv' : List ℕ) (s bk : ℕ)
       each = λ i. omega (arith, d.each i);
       front = refl;
       back = front_back;
-      nexts = front-next;
-      prevs = front-prev;
+      nexts = front_next;
+      prevs = front_prev;
       stacks = d.stacks;
     }
 
     -- the stores were made at the slot and at the old front
     front_kept : Kept t nx pv nx' pv'
     front_kept = record {
-      nexts = λ i c. get_or_put_other h.slots nx s h.front.0 i en d.long.nexts (in_use i c) (not-s i c);
-      prevs = λ i c. get_or_put_other h.slots pv1 s none_mark i ev l1 (in_use i c) (not-s i c)
+      nexts = λ i c. get_or_put_other h.slots nx s h.front.0 i en d.long.nexts (in_use i c) (not_s i c);
+      prevs = λ i c. get_or_put_other h.slots pv1 s none_mark i ev l1 (in_use i c) (not_s i c)
           ∙ get_or_put_other h.slots pv h.front.0 s i e1 d.long.prevs (in_use i c)
           (λ e. not_head i o (no_mark i (in_use i c)) (omega (arith, d.each i, below_le i h.top.0)) (sym d.front ∙ e));
     }
@@ -81,14 +81,14 @@ module _ (h : Head) (nx pv pv1 nx' pv' : List ℕ) (s bk : ℕ)
         in_use : (i : ℕ) → 1 ≤ count i t → i < h.slots
         in_use i c = let k : i < h.top.0 = below_lt i h.top.0 (omega (arith, d.each i)) in omega (arith, d.fit)
 
-        not-s : (i : ℕ) → 1 ≤ count i t → s ≡ i → ⊥
-        not-s i c e = omega (arith, hit s i e, d.each i, below_le i h.top.0)
+        not_s : (i : ℕ) → 1 ≤ count i t → s ≡ i → ⊥
+        not_s i c e = omega (arith, hit s i e, d.each i, below_le i h.top.0)
 
   pub fronted : Fronted h (ended h s bk) nx pv nx' pv' s
   fronted = record {
     rest = record { kind = refl; capacity = refl; slots = refl; weight = refl };
     next_tail = put_tail h.slots nx s h.front.0 en;
     prev_tail = tail_trans (put_tail h.slots pv h.front.0 s e1) (put_tail h.slots pv1 s none_mark ev);
-    linked = front-linked;
+    linked = front_linked;
     kept = front_kept;
   }

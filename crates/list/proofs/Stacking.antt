@@ -56,27 +56,27 @@ module _ (h : Head) (nx pv st nx' pv' st' : List ℕ) (s : ℕ)
     alone : count s o + count s f + count s t ≡ 0
     alone = omega (arith, d.each s, hit s s refl, below_le s h.top.0)
 
-    release-next : (i : ℕ) → i < h.slots → count i t ≡ 0 → get_or nx' i 0 ≡ next_at o i
-    release-next i hi z =
+    release_next : (i : ℕ) → i < h.slots → count i t ≡ 0 → get_or nx' i 0 ≡ next_at o i
+    release_next i hi z =
         rw (en, get_or_put h.slots nx s unused_mark i d.long.nexts hi)
         (ifeq_by s i _ _ _
         (λ e. subst (λ (j : ℕ). unused_mark ≡ next_at o j) e (sym (next_absent o s (omega (arith, alone)))))
         (λ ne. d.nexts i hi (omega (arith, miss s i ne))))
 
-    release-prev : (i : ℕ) → i < h.slots → count i t ≡ 0 → get_or pv' i 0 ≡ prev_at none_mark o i (place_at 0 (f ++ s ∷ []) i)
-    release-prev i hi z =
+    release_prev : (i : ℕ) → i < h.slots → count i t ≡ 0 → get_or pv' i 0 ≡ prev_at none_mark o i (place_at 0 (f ++ s ∷ []) i)
+    release_prev i hi z =
         rw (ev, get_or_put h.slots pv s h.depth.0 i d.long.prevs hi)
         (ifeq_by s i _ _ _
         (λ e. subst (λ (j : ℕ). h.depth.0 ≡ prev_at none_mark o j (place_at 0 (f ++ s ∷ []) j)) e
         (omega (arith, d.depth, prev_absent none_mark o s (place_at 0 (f ++ s ∷ []) s) (omega (arith, alone)), place_at_lem 0 f s [] (omega (arith, alone)))))
         (λ ne. d.prevs i hi (omega (arith, miss s i ne)) ∙ ap (prev_at none_mark o i) (sym (place_other 0 f s i ne))))
 
-    release-stack : (i : ℕ) → i < h.slots → get_or st' i 0 ≡ get_or (f ++ s ∷ []) i none_mark
-    release-stack i hi =
+    release_stack : (i : ℕ) → i < h.slots → get_or st' i 0 ≡ get_or (f ++ s ∷ []) i none_mark
+    release_stack i hi =
         rw (es, get_or_put h.slots st h.depth.0 s i d.long.stacks hi, d.depth, d.stacks i hi) (sym (get_or_more f s i none_mark))
 
-    release-linked : Linked (deeper h) nx' pv' st' o (f ++ s ∷ []) t
-    release-linked = record {
+    release_linked : Linked (deeper h) nx' pv' st' o (f ++ s ∷ []) t
+    release_linked = record {
       long = record {
         small = d.long.small;
         nexts = rw (en, length_put) d.long.nexts;
@@ -90,22 +90,22 @@ module _ (h : Head) (nx pv st nx' pv' st' : List ℕ) (s : ℕ)
       each = λ i. omega (arith, d.each i, count_append i f (s ∷ []));
       front = d.front;
       back = d.back;
-      nexts = release-next;
-      prevs = release-prev;
-      stacks = release-stack;
+      nexts = release_next;
+      prevs = release_prev;
+      stacks = release_stack;
     }
 
-    release-kept : Kept t nx pv nx' pv'
-    release-kept = record {
-      nexts = λ i c. get_or_put_other h.slots nx s unused_mark i en d.long.nexts (in_use i c) (not-s i c);
-      prevs = λ i c. get_or_put_other h.slots pv s h.depth.0 i ev d.long.prevs (in_use i c) (not-s i c);
+    release_kept : Kept t nx pv nx' pv'
+    release_kept = record {
+      nexts = λ i c. get_or_put_other h.slots nx s unused_mark i en d.long.nexts (in_use i c) (not_s i c);
+      prevs = λ i c. get_or_put_other h.slots pv s h.depth.0 i ev d.long.prevs (in_use i c) (not_s i c);
     }
       where
         in_use : (i : ℕ) → 1 ≤ count i t → i < h.slots
         in_use i c = let k : i < h.top.0 = below_lt i h.top.0 (omega (arith, d.each i)) in omega (arith, d.fit)
 
-        not-s : (i : ℕ) → 1 ≤ count i t → s ≡ i → ⊥
-        not-s i c e = omega (arith, hit s i e, d.each i, below_le i h.top.0)
+        not_s : (i : ℕ) → 1 ≤ count i t → s ≡ i → ⊥
+        not_s i c e = omega (arith, hit s i e, d.each i, below_le i h.top.0)
 
   pub released : Released h (deeper h) nx pv st nx' pv' st' s
   released = record {
@@ -113,6 +113,6 @@ module _ (h : Head) (nx pv st nx' pv' st' : List ℕ) (s : ℕ)
     next_tail = put_tail h.slots nx s unused_mark en;
     prev_tail = put_tail h.slots pv s h.depth.0 ev;
     stack_tail = put_tail h.slots st h.depth.0 s es;
-    linked = release-linked;
-    kept = release-kept;
+    linked = release_linked;
+    kept = release_kept;
   }

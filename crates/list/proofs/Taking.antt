@@ -106,19 +106,19 @@ module _ (h : Head) (st st' : List ℕ) (s : ℕ) (z : h.depth.0 ≡ 0 → ⊥) 
     deep : h.depth.0 ≡ suc (length f)
     deep = omega (arith, d.depth, length-append f (x ∷ []))
 
-    s-is : s ≡ x
-    s-is =
+    s_is : s ≡ x
+    s_is =
         let k : length f ≡ h.depth.0 - 1 = omega (arith, deep) in
         eq ∙ d.stacks (h.depth.0 - 1) (omega (arith, deep, d.size, d.fit, length-append f (x ∷ [])))
         ∙ get_or_at f x [] none_mark (h.depth.0 - 1) k
 
-    pop-stack : (i : ℕ) → i < h.slots → get_or st' i 0 ≡ get_or f i none_mark
-    pop-stack i hi =
+    pop_stack : (i : ℕ) → i < h.slots → get_or st' i 0 ≡ get_or f i none_mark
+    pop_stack i hi =
         let k : h.depth.0 - 1 ≡ length f = omega (arith, deep) in
         rw (es, get_or_put h.slots st (h.depth.0 - 1) none_mark i d.long.stacks hi, k, d.stacks i hi) (get_or_less f x i none_mark)
 
-    pop-linked : Linked (fuller h h.top.0 (h.depth.0 - 1)) nx pv st' o f (x ∷ t)
-    pop-linked = record {
+    pop_linked : Linked (fuller h h.top.0 (h.depth.0 - 1)) nx pv st' o f (x ∷ t)
+    pop_linked = record {
       long = record { small = d.long.small; nexts = d.long.nexts; prevs = d.long.prevs; stacks = rw (es, length_put) d.long.stacks };
       live = omega (arith, d.live);
       depth = omega (arith, deep);
@@ -129,7 +129,7 @@ module _ (h : Head) (st st' : List ℕ) (s : ℕ) (z : h.depth.0 ≡ 0 → ⊥) 
       back = d.back;
       nexts = λ i hi n. d.nexts i hi (omega arith);
       prevs = λ i hi n. d.prevs i hi (omega arith) ∙ ap (prev_at none_mark o i) (place_other 0 f x i (λ e. omega (arith, hit x i e)));
-      stacks = pop-stack;
+      stacks = pop_stack;
     }
 
   some_free : (nx pv o f t : List ℕ) → Linked h nx pv st o f t → 1 ≤ length f
@@ -141,7 +141,7 @@ module _ (h : Head) (st st' : List ℕ) (s : ℕ) (z : h.depth.0 ≡ 0 → ⊥) 
     rest = record { kind = refl; capacity = refl; slots = refl; weight = refl };
     stack_tail = put_tail h.slots st (h.depth.0 - 1) none_mark es;
     slot = λ nx pv o f t d. let b = back_of f (some_free nx pv o f t d) in
-        s-is nx pv o b.front t b.back (subst (λ (l : List ℕ). Linked h nx pv st o l t) b.same d)
+        s_is nx pv o b.front t b.back (subst (λ (l : List ℕ). Linked h nx pv st o l t) b.same d)
         ∙ sym (taken_back h.top.0 b.front b.back) ∙ ap (taken h.top.0) (sym b.same);
     top = λ nx pv o f t d. let b = back_of f (some_free nx pv o f t d) in
         sym (top_after_back h.top.0 b.front b.back) ∙ ap (top_after h.top.0) (sym b.same);
@@ -150,6 +150,6 @@ module _ (h : Head) (st st' : List ℕ) (s : ℕ) (z : h.depth.0 ≡ 0 → ⊥) 
         subst⁻¹ (λ (l : List ℕ). Linked (fuller h h.top.0 (h.depth.0 - 1)) nx pv st' o l (s ∷ t))
         (ap (but_last 1) b.same ∙ but_last_one b.front b.back)
         (subst⁻¹ (λ (j : ℕ). Linked (fuller h h.top.0 (h.depth.0 - 1)) nx pv st' o b.front (j ∷ t))
-        (s-is nx pv o b.front t b.back d')
-        (pop-linked nx pv o b.front t b.back d'));
+        (s_is nx pv o b.front t b.back d')
+        (pop_linked nx pv o b.front t b.back d'));
   }

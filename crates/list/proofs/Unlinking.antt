@@ -55,45 +55,45 @@ module _ (h : Head) (nx pv nx' pv' : List ℕ) (s p q fr bk : ℕ) (ep : p ≡ g
     once : (i : ℕ) → count i a + count i (s ∷ b) + count i f + count i t ≤ 1
     once i = omega (arith, d.each i, below_le i h.top.0, count_append i a (s ∷ b))
 
-    at-s : s < h.slots
-    at-s = small s (omega (arith, count_append s a (s ∷ b), hit s s refl))
+    at_s : s < h.slots
+    at_s = small s (omega (arith, count_append s a (s ∷ b), hit s s refl))
 
-    p-is : p ≡ last_or none_mark a
-    p-is =
-        ep ∙ d.prevs s at-s (omega (arith, once s, hit s s refl))
+    p_is : p ≡ last_or none_mark a
+    p_is =
+        ep ∙ d.prevs s at_s (omega (arith, once s, hit s s refl))
         ∙ prev_at_lem none_mark a s b (place_at 0 f s) (omega (arith, once s, hit s s refl))
 
-    q-is : q ≡ head_or none_mark b
-    q-is = eq ∙ d.nexts s at-s (omega (arith, once s, hit s s refl)) ∙ next_at_lem a s b (omega (arith, once s, hit s s refl))
+    q_is : q ≡ head_or none_mark b
+    q_is = eq ∙ d.nexts s at_s (omega (arith, once s, hit s s refl)) ∙ next_at_lem a s b (omega (arith, once s, hit s s refl))
 
     no_mark : (i : ℕ) → i < h.slots → none_mark ≡ i → ⊥
     no_mark i hi e = omega (arith, d.long.small)
 
-    unlink-next : (i : ℕ) → i < h.slots → count i (s ∷ t) ≡ 0 → get_or nx' i 0 ≡ next_at (a ++ b) i
-    unlink-next i hi z =
-        rw (en, get_or_put h.slots nx p q i d.long.nexts hi, p-is, q-is, d.nexts i hi (omega arith))
+    unlink_next : (i : ℕ) → i < h.slots → count i (s ∷ t) ≡ 0 → get_or nx' i 0 ≡ next_at (a ++ b) i
+    unlink_next i hi z =
+        rw (en, get_or_put h.slots nx p q i d.long.nexts hi, p_is, q_is, d.nexts i hi (omega arith))
         (next_unlink a s b i (λ e. omega (arith, hit s i e)) (no_mark i hi) (omega (arith, once i, count_append i a (s ∷ b))))
 
-    unlink-prev : (i : ℕ) → i < h.slots → count i (s ∷ t) ≡ 0 → get_or pv' i 0 ≡ prev_at none_mark (a ++ b) i (place_at 0 f i)
-    unlink-prev i hi z =
-        rw (ev, get_or_put h.slots pv q p i d.long.prevs hi, p-is, q-is, d.prevs i hi (omega arith))
+    unlink_prev : (i : ℕ) → i < h.slots → count i (s ∷ t) ≡ 0 → get_or pv' i 0 ≡ prev_at none_mark (a ++ b) i (place_at 0 f i)
+    unlink_prev i hi z =
+        rw (ev, get_or_put h.slots pv q p i d.long.prevs hi, p_is, q_is, d.prevs i hi (omega arith))
         (prev_unlink none_mark a s b i (place_at 0 f i) (λ e. omega (arith, hit s i e)) (no_mark i hi) (omega (arith, once i, count_append i a (s ∷ b))))
 
-    unlink-front : fr ≡ head_or none_mark (a ++ b)
-    unlink-front =
-        rw (ef, p-is, q-is, d.front)
+    unlink_front : fr ≡ head_or none_mark (a ++ b)
+    unlink_front =
+        rw (ef, p_is, q_is, d.front)
         (front_unlink h.slots a s b (omega (arith, d.long.small)) (λ i c. small i (omega (arith, count_append i a (s ∷ b)))))
 
-    unlink-back : bk ≡ last_or none_mark (a ++ b)
-    unlink-back =
-        rw (eb, p-is, q-is, d.back)
+    unlink_back : bk ≡ last_or none_mark (a ++ b)
+    unlink_back =
+        rw (eb, p_is, q_is, d.back)
         (back_unlink h.slots a s b (omega (arith, d.long.small)) (λ i c. small i (omega (arith, count_append i a (s ∷ b)))))
 
     len : length (a ++ s ∷ b) ≡ suc (length (a ++ b))
     len = omega (arith, length-append a (s ∷ b), length-append a b)
 
-    unlink-linked : Linked (ended h fr bk) nx' pv' st (a ++ b) f (s ∷ t)
-    unlink-linked = record {
+    unlink_linked : Linked (ended h fr bk) nx' pv' st (a ++ b) f (s ∷ t)
+    unlink_linked = record {
       long = record {
         small = d.long.small;
         nexts = rw (en, length_put) d.long.nexts;
@@ -105,20 +105,20 @@ module _ (h : Head) (nx pv nx' pv' : List ℕ) (s p q fr bk : ℕ) (ep : p ≡ g
       size = omega (arith, d.size, len);
       fit = d.fit;
       each = λ i. omega (arith, d.each i, count_append i a (s ∷ b), count_append i a b);
-      front = unlink-front;
-      back = unlink-back;
-      nexts = unlink-next;
-      prevs = unlink-prev;
+      front = unlink_front;
+      back = unlink_back;
+      nexts = unlink_next;
+      prevs = unlink_prev;
       stacks = d.stacks;
     }
 
     -- the stores were made at the neighbours
-    unlink-kept : Kept (s ∷ t) nx pv nx' pv'
-    unlink-kept = record {
+    unlink_kept : Kept (s ∷ t) nx pv nx' pv'
+    unlink_kept = record {
       nexts = λ i c. get_or_put_other h.slots nx p q i en d.long.nexts (in_use i c)
-          (λ e. not_last i a (no_mark i (in_use i c)) (omega (arith, once i)) (sym p-is ∙ e));
+          (λ e. not_last i a (no_mark i (in_use i c)) (omega (arith, once i)) (sym p_is ∙ e));
       prevs = λ i c. get_or_put_other h.slots pv q p i ev d.long.prevs (in_use i c)
-          (λ e. not_head i b (no_mark i (in_use i c)) (omega (arith, once i)) (sym q-is ∙ e));
+          (λ e. not_head i b (no_mark i (in_use i c)) (omega (arith, once i)) (sym q_is ∙ e));
     }
       where
         in_use : (i : ℕ) → 1 ≤ count i (s ∷ t) → i < h.slots
@@ -133,7 +133,7 @@ module _ (h : Head) (nx pv nx' pv' : List ℕ) (s p q fr bk : ℕ) (ep : p ≡ g
     prev_tail = put_tail h.slots pv q p ev;
     linked = λ st o f t i e d. let w = around i s o e in
         subst⁻¹ (λ (l : List ℕ). Linked (ended h fr bk) nx' pv' st l f (s ∷ t)) w.less
-        (unlink-linked st w.pre w.post f t (subst (λ (l : List ℕ). Linked h nx pv st l f t) w.is d));
+        (unlink_linked st w.pre w.post f t (subst (λ (l : List ℕ). Linked h nx pv st l f t) w.is d));
     kept = λ st o f t i e d. let w = around i s o e in
-        unlink-kept st w.pre w.post f t (subst (λ (l : List ℕ). Linked h nx pv st l f t) w.is d);
+        unlink_kept st w.pre w.post f t (subst (λ (l : List ℕ). Linked h nx pv st l f t) w.is d);
   }

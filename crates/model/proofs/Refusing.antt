@@ -25,7 +25,7 @@ use Rattle.model.specs.Perform.{Cache, Opening, refused, opened, fresh, opening,
 use Rattle.model.specs.Claims.{Lawful}
 use Rattle.model.specs.Causes.{Wish, resizing, retaining, putting, trying, weighing, assigning, telling, another, wish_of, no_capacity, not_understood, wrong_kind, too_heavy, over_ceiling, evicts, no_slot, gone, to_hand_out, too_few_rows, cause, in_order, first_of, before, NoneHolds, Given, refusal_in, not_opened}
 use Rattle.model.proofs.Cases.{split}
-use Rattle.model.proofs.Saying.{bounds_test, kind_test, none_dropped, said-first}
+use Rattle.model.proofs.Saying.{bounds_test, kind_test, none_dropped, said_first}
 
 -- ---- the first cause that holds
 
@@ -138,7 +138,7 @@ module _ (m : Command) (lent : ℕ) (c : Cache) where
   -- the refusal of an answer is the first of the table's causes that holds
   pub refused_first : refusal_in a ≡ first_of holds in_order
   unfolding perform
-  refused_first = said-first lent d m
+  refused_first = said_first lent d m
 
   -- a refusal is answered exactly when its cause holds and none that is checked before it
   pub refused_exactly : (r : Refusal) → a ≡ No r ↔ Given holds r

@@ -179,24 +179,24 @@ module _ (lent : ℕ) where
 
   module _ (d : Desk) where
     -- `put` of a code on a plain cache, and what is like it
-    said-pushing : (c : ℕ) (e : Row) (a : Answer) (g : ℕ → Row → Verdict) → refusal_in a ≡ none → ((i : ℕ) (old : Row) → said (g i old) ≡ lastly 0)
+    said_pushing : (c : ℕ) (e : Row) (a : Answer) (g : ℕ → Row → Verdict) → refusal_in a ≡ none → ((i : ℕ) (old : Row) → said (g i old) ≡ lastly 0)
         → said (on_plain d.kind (on_found (find c d.entries) (admit (pushing d) e a d) g))
         ≡ cond (is_weighed d.kind) (some WrongKind) (cond (no_slot (putting c) d) (some NoSlot) (lastly (to_hand_out (putting c) d)))
-    said-pushing c e a g h b =
+    said_pushing c e a g h b =
         said_plain d.kind _ _ (λ p.
         said_put (find c d.entries) (eqb (live d) d.room) (not (eqb (live d) d.capacity)) _ g (gone (putting c) d d.entries) (λ i old. 0)
         (said_admit (pushing d) (gone (putting c) d d.entries) e a d (eqb (live d) d.capacity) h (push_none d) (push_gone d c))
         b)
 
-    said-modify : (c s n : ℕ)
+    said_modify : (c s n : ℕ)
         → said (put_or_modify_call c s n d)
         ≡ cond (is_weighed d.kind) (some WrongKind) (cond (no_slot (putting c) d) (some NoSlot) (lastly (to_hand_out (putting c) d)))
-    said-modify c s n = said-pushing c (entry c s n 0) (Now n true (pushing d)) _ refl (λ i old. said_bare _ _ refl)
+    said_modify c s n = said_pushing c (entry c s n 0) (Now n true (pushing d)) _ refl (λ i old. said_bare _ _ refl)
 
-    said-weighing : (c s v w : ℕ) → leb d.capacity w ≡ false
+    said_weighing : (c s v w : ℕ) → leb d.capacity w ≡ false
         → said (on_found (find c d.entries) (admit (leaving (beside w d) d.entries) (entry c s v w) (New (leaving (beside w d) d.entries)) d) (λ i old. exchange i old (entry c s v w) d))
         ≡ cond (no_slot (weighing c w) d) (some NoSlot) (lastly (to_hand_out (weighing c w) d))
-    said-weighing c s v w t =
+    said_weighing c s v w t =
         let h : w < d.capacity = leb-false d.capacity w t in
         let k : ℕ = leaving (beside w d) d.entries in
         said_put (find c d.entries) (eqb (live d) d.room) (not (evicts (weighing c w) d d.entries)) _ _ (gone (weighing c w) d d.entries) (λ i old. gone (weighing c w) d (without i d.entries))
@@ -204,55 +204,55 @@ module _ (lent : ℕ) where
         (weigh_none d c w d.entries h) (weigh_gone d c w d.entries h))
         (λ i old. said_rows (exchange i old (entry c s v w) d) _ refl (weigh_gone d c w (without i d.entries) h))
 
-    said-assigning : (f : Found) (v : ℕ) → said (setting f v d) ≡ cond (is_weighed d.kind) (some WrongKind) (lastly 0)
-    said-assigning f v =
+    said_assigning : (f : Found) (v : ℕ) → said (setting f v d) ≡ cond (is_weighed d.kind) (some WrongKind) (lastly 0)
+    said_assigning f v =
         said_plain d.kind _ _ (λ p. said_found f _ _ (lastly 0) (said_bare Absent _ refl) (λ i e. said_bare _ _ refl))
 
-    said-showing : (f : Found) → said (showing f) ≡ lastly 0
-    said-showing f = said_found f _ _ (lastly 0) (said_bare _ _ refl) (λ i e. said_bare _ _ refl)
+    said_showing : (f : Found) → said (showing f) ≡ lastly 0
+    said_showing f = said_found f _ _ (lastly 0) (said_bare _ _ refl) (λ i e. said_bare _ _ refl)
 
-    said-popping : (f : Found) → said (popping f) ≡ lastly 0
-    said-popping f = said_found f _ _ (lastly 0) (said_bare _ _ refl) (λ i e. said_bare _ _ refl)
+    said_popping : (f : Found) → said (popping f) ≡ lastly 0
+    said_popping f = said_found f _ _ (lastly 0) (said_bare _ _ refl) (λ i e. said_bare _ _ refl)
 
-    pub said-first : (m : Command) → said (verdict m d) ≡ first_of (cause m lent d) in_order
+    pub said_first : (m : Command) → said (verdict m d) ≡ first_of (cause m lent d) in_order
     unfolding verdict
-    said-first (Resize c) =
+    said_first (Resize c) =
         let k : ℕ = leaving c d.entries in
         let v : Verdict = record { answer = Done k; rows = oldest k d.entries; move = fit k c } in
         rw (bounds_test most_capacity c) (said_unless (no_capacity c) NotUnderstood v _ (said_rows v _ refl (fit_gone d c)))
-    said-first (Retain q) =
+    said_first (Retain q) =
         let out : List Row = marked (others (marks q d.entries)) d.entries in
         let v : Verdict = record { answer = Done (length out); rows = out; move = sweep q } in
         rw (rule_test q.number) (said_unless (no_rule q.number) NotUnderstood v _ (said_rows v _ refl (swept q d.entries)))
-    said-first (Put c s v) = said-pushing c.0 (entry c.0 s v 0) (New (pushing d)) _ refl (λ i old. said_bare _ _ refl)
-    said-first (PutOrModify c s n) = said-modify c.0 s n
-    said-first (TryPutOrModify c s n most) =
+    said_first (Put c s v) = said_pushing c.0 (entry c.0 s v 0) (New (pushing d)) _ refl (λ i old. said_bare _ _ refl)
+    said_first (PutOrModify c s n) = said_modify c.0 s n
+    said_first (TryPutOrModify c s n most) =
         let o : Option Refusal = cond (no_slot (putting c.0) d) (some NoSlot) (lastly (to_hand_out (putting c.0) d)) in
         said_plain d.kind _ _ (λ p.
         said_under (find c.0 d.entries) n most _ (put_or_modify_call c.0 s n d) o
-        (said-modify c.0 s n ∙ ap (λ (k : Kind). cond (is_weighed k) (some WrongKind) o) p))
-    said-first (PutWithWeight c s v w) =
+        (said_modify c.0 s n ∙ ap (λ (k : Kind). cond (is_weighed k) (some WrongKind) o) p))
+    said_first (PutWithWeight c s v w) =
         rw (wrong_weight_lem d.kind w)
         (said_test (not (is_weighed d.kind) && not (eqb w 0)) WrongKind _ _ _ (λ t.
-        said_test (leb d.capacity w) TooHeavy _ _ _ (λ u. said-weighing c.0 s v w u)))
-    said-first (GetMut c v) =
+        said_test (leb d.capacity w) TooHeavy _ _ _ (λ u. said_weighing c.0 s v w u)))
+    said_first (GetMut c v) =
         said_plain d.kind _ _ (λ p. said_found (find c.0 d.entries) _ _ (lastly 0) (said_bare Absent _ refl) (λ i e. said_bare _ _ refl))
-    said-first (PeekMut c v) = said-assigning (find c.0 d.entries) v
-    said-first (FrontMut v) = said-assigning (first d.entries) v
-    said-first (BackMut v) = said-assigning (last d.entries) v
-    said-first ListFront = said_rows (listing d.entries) _ refl refl
-    said-first ListBack = said_rows (listing (reverse d.entries)) _ refl (length-reverse d.entries)
-    said-first Len = said_bare _ _ refl
-    said-first Capacity = said_bare _ _ refl
-    said-first Weight = said_bare _ _ refl
-    said-first IsEmpty = said_bare _ _ refl
-    said-first IsFull = said_bare _ _ refl
-    said-first Front = said-showing (first d.entries)
-    said-first Back = said-showing (last d.entries)
-    said-first (Peek c) = said_found (find c.0 d.entries) _ _ (lastly 0) (said_bare _ _ refl) (λ i e. said_bare _ _ refl)
-    said-first (Contains c) = said_bare _ _ refl
-    said-first (Get c) = said_found (find c.0 d.entries) _ _ (lastly 0) (said_bare _ _ refl) (λ i e. said_bare _ _ refl)
-    said-first (Pop c) = said_found (find c.0 d.entries) _ _ (lastly 0) (said_bare _ _ refl) (λ i e. said_bare _ _ refl)
-    said-first PopFront = said-popping (first d.entries)
-    said-first PopBack = said-popping (last d.entries)
-    said-first Clear = said_bare _ _ refl
+    said_first (PeekMut c v) = said_assigning (find c.0 d.entries) v
+    said_first (FrontMut v) = said_assigning (first d.entries) v
+    said_first (BackMut v) = said_assigning (last d.entries) v
+    said_first ListFront = said_rows (listing d.entries) _ refl refl
+    said_first ListBack = said_rows (listing (reverse d.entries)) _ refl (length-reverse d.entries)
+    said_first Len = said_bare _ _ refl
+    said_first Capacity = said_bare _ _ refl
+    said_first Weight = said_bare _ _ refl
+    said_first IsEmpty = said_bare _ _ refl
+    said_first IsFull = said_bare _ _ refl
+    said_first Front = said_showing (first d.entries)
+    said_first Back = said_showing (last d.entries)
+    said_first (Peek c) = said_found (find c.0 d.entries) _ _ (lastly 0) (said_bare _ _ refl) (λ i e. said_bare _ _ refl)
+    said_first (Contains c) = said_bare _ _ refl
+    said_first (Get c) = said_found (find c.0 d.entries) _ _ (lastly 0) (said_bare _ _ refl) (λ i e. said_bare _ _ refl)
+    said_first (Pop c) = said_found (find c.0 d.entries) _ _ (lastly 0) (said_bare _ _ refl) (λ i e. said_bare _ _ refl)
+    said_first PopFront = said_popping (first d.entries)
+    said_first PopBack = said_popping (last d.entries)
+    said_first Clear = said_bare _ _ refl

@@ -87,8 +87,8 @@ module _ (kind c n : ℕ) (s : State) (a : allowed kind c n ≡ true) (l : spaci
       })
 
   module _ {h : Head} (t : State) (e : Emptied (fresh_head kind c n) s.fields s.nexts s.prevs s.stack s.cells h t.fields t.nexts t.prevs t.stack t.cells) where
-    emptied-head : h ≡ fresh_head kind c n
-    emptied-head = λ i. record {
+    emptied_head : h ≡ fresh_head kind c n
+    emptied_head = λ i. record {
       kind = e.kind i;
       capacity = e.capacity i;
       slots = e.slots i;
@@ -100,8 +100,8 @@ module _ (kind c n : ℕ) (s : State) (a : allowed kind c n ≡ true) (l : spaci
       depth = record { 0 = e.linked.depth i };
     }
 
-    emptied-means : Describes h t.fields t.nexts t.prevs t.stack t.cells (fresh (kind_of kind) c n)
-    emptied-means =
+    emptied_means : Describes h t.fields t.nexts t.prevs t.stack t.cells (fresh (kind_of kind) c n)
+    emptied_means =
         empty_described (kind_of kind) c n h t.fields t.nexts t.prevs t.stack t.cells
         (e.kind ∙ sym (kind_number_lem kind (leb-true kind 1 (both (leb kind 1) _ a).0)))
         e.capacity
@@ -114,17 +114,17 @@ module _ (kind c n : ℕ) (s : State) (a : allowed kind c n ≡ true) (l : spaci
         e.blanks
         e.table
 
-    opens-emptied : t.head ≡ fresh_head kind c n → s.head ≡ fresh_head kind c n → Opens kind c n s t (Began h)
-    opens-emptied q z =
-        opens_one kind c n s (rw (a, l) refl) (ap Began (emptied-head ∙ sym q))
-        (subst (λ (x : Head). Describes x t.fields t.nexts t.prevs t.stack t.cells (fresh (kind_of kind) c n)) (emptied-head ∙ sym q) emptied-means)
+    opens_emptied : t.head ≡ fresh_head kind c n → s.head ≡ fresh_head kind c n → Opens kind c n s t (Began h)
+    opens_emptied q z =
+        opens_one kind c n s (rw (a, l) refl) (ap Began (emptied_head ∙ sym q))
+        (subst (λ (x : Head). Describes x t.fields t.nexts t.prevs t.stack t.cells (fresh (kind_of kind) c n)) (emptied_head ∙ sym q) emptied_means)
         (rw z e.tails)
 
   -- the lists emptied under a fresh head
   pub opens_fresh : {g h : Head} (t : State) → g ≡ fresh_head kind c n → t.head ≡ fresh_head kind c n → s.head ≡ fresh_head kind c n
       → Emptied g s.fields s.nexts s.prevs s.stack s.cells h t.fields t.nexts t.prevs t.stack t.cells
       → Opens kind c n s t (Began h)
-  opens_fresh t q y z e = opens-emptied t (rw (← q) e) y z
+  opens_fresh t q y z e = opens_emptied t (rw (← q) e) y z
 
 -- ---- as the code comes to it
 

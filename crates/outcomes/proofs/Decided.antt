@@ -10,7 +10,7 @@ use Rattle.model.specs.Perform.{Cache}
 use Rattle.model.proofs.Cases.{split}
 use Rattle.list.proofs.Unique.{order_is, free_is}
 use Rattle.store.specs.State.{gather}
-use Rattle.inspect.proofs.Decided.{passes, passed_whole, whole-passes}
+use Rattle.inspect.proofs.Decided.{passes, passed_whole, whole_passes}
 use Rattle.plan.specs.States.{State, Means, Sound}
 
 -- the tests of the inspection say which
@@ -18,7 +18,7 @@ pub sound? : (s : State) → Sound s ⊎ (Sound s → ⊥)
 sound? s =
     split (passes s.head s.fields s.nexts s.prevs s.stack s.cells)
     (λ e. inl (passed_whole s.head s.fields s.nexts s.prevs s.stack s.cells e))
-    (λ e. inr (λ w. false≢true (sym e ∙ whole-passes s.head s.fields s.nexts s.prevs s.stack s.cells w)))
+    (λ e. inr (λ w. false≢true (sym e ∙ whole_passes s.head s.fields s.nexts s.prevs s.stack s.cells w)))
 
 -- the cache that the numbers of a state spell
 abbrev pub shown : State → Cache

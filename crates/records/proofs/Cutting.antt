@@ -91,15 +91,15 @@ module _ (room k : ℕ) (f : Fields) (is : k ≡ min room (min (length f.codes) 
   same e = ap (mended k f) e ∙ rw (take-append-drop k f.codes, take-append-drop k f.stamps, take-append-drop k f.values, take-append-drop k f.weights) refl
 
   module _ {m : Command} {s : State} {g : Fields} {a : Answer} where
-    pub calls-within : {t : State} → Calls m s t (cut k f) g a → CallsWithin m room s t f (mended k f g) a
-    calls-within p = record {
+    pub calls_within : {t : State} → Calls m s t (cut k f) g a → CallsWithin m room s t f (mended k f g) a
+    calls_within p = record {
       serves = rw many at p.serves;
       hands = λ c h. written (rw many at (p.hands c h));
       unsound = λ n. same (p.unsound n);
     }
 
-    pub tells-within : Tells m s (cut k f) g a → TellsWithin m room s f (mended k f g) a
-    tells-within p = record {
+    pub tells_within : Tells m s (cut k f) g a → TellsWithin m room s f (mended k f g) a
+    tells_within p = record {
       answer = λ c h. rw many at (p.answer c h);
       hands = λ c h. written (rw many at (p.hands c h));
       unsound = λ n. ((p.unsound n).0, same (p.unsound n).1);

@@ -114,11 +114,11 @@ module _ (m : Command) (s : State) (rows rows' : Fields) (a : Answer) (before af
         let z = min_right (length before) (shortest rows) in
         all_hold written before (omega (arith, many, fit)) (omega (arith, many, few, z))
 
-    is-saved : r ≡ true
-    is-saved = saved.answer ∙ all
+    is_saved : r ≡ true
+    is_saved = saved.answer ∙ all
 
-    records-are : after ≡ laid handed before
-    records-are =
+    records_are : after ≡ laid handed before
+    records_are =
         let given : after ≡ copied (row_count a) rows' before = saved.records ∙ rw all refl in
         given ∙ ap (λ (n : ℕ). copied n rows' before) many ∙ copied_all before handed written fit
 
@@ -133,33 +133,33 @@ module _ (m : Command) (s : State) (rows rows' : Fields) (a : Answer) (before af
     call_counts : (c : Cache) → Means s c → row_count a ≡ length (perform m k c).rows
     call_counts c h = ap row_count (p.serves.sound c h).answer ∙ rows_counted m k c h.lawful.capacity.0
 
-    pub calls-into : CallsInto m s t rows rows' before after a
-    calls-into = record {
+    pub calls_into : CallsInto m s t rows rows' before after a
+    calls_into = record {
       calls = p;
       records = record {
-        hands = λ c h. records-are (perform m k c).rows (call_counts c h) (rows_fit m k c) (p.hands c h);
+        hands = λ c h. records_are (perform m k c).rows (call_counts c h) (rows_fit m k c) (p.hands c h);
         refused = refused_saved;
       };
     }
 
-    pub calls-saved : r ≡ true
-    calls-saved = settle r (λ c h. is-saved (perform m k c).rows (call_counts c h) (rows_fit m k c) (p.hands c h)) (λ n. none_saved (p.serves.unsound n).0)
+    pub calls_saved : r ≡ true
+    calls_saved = settle r (λ c h. is_saved (perform m k c).rows (call_counts c h) (rows_fit m k c) (p.hands c h)) (λ n. none_saved (p.serves.unsound n).0)
 
   module _ (p : TellsWithin m (length before) s rows rows' a) where
     tell_counts : (c : Cache) → Means s c → row_count a ≡ length (told_rows m k c)
     tell_counts c h = ap row_count (p.answer c h) ∙ told_counted m k c h.lawful.capacity.0
 
-    pub tells-into : TellsInto m s rows rows' before after a
-    tells-into = record {
+    pub tells_into : TellsInto m s rows rows' before after a
+    tells_into = record {
       tells = p;
       records = record {
-        hands = λ c h. records-are (told_rows m k c) (tell_counts c h) (told_fit m k c) (p.hands c h);
+        hands = λ c h. records_are (told_rows m k c) (tell_counts c h) (told_fit m k c) (p.hands c h);
         refused = refused_saved;
       };
     }
 
-    pub tells-saved : r ≡ true
-    tells-saved = settle r (λ c h. is-saved (told_rows m k c) (tell_counts c h) (told_fit m k c) (p.hands c h)) (λ n. none_saved (p.unsound n).0)
+    pub tells_saved : r ≡ true
+    tells_saved = settle r (λ c h. is_saved (told_rows m k c) (tell_counts c h) (told_fit m k c) (p.hands c h)) (λ n. none_saved (p.unsound n).0)
 
 -- ---- one outcome
 

@@ -1,6 +1,6 @@
 -- A `&κ mut [T]` that is lent as `&mut` to a call, then as `&` to a second one, and comes back. Meanwhile its holder keeps its own borrow, open (`Lent`).
 --     lends_again      it is lent for κ' under the name γ₁
---     turns-shared     κ' is over, and the callee left zs: that is lent as `&` for κ'
+--     turns_shared     κ' is over, and the callee left zs: that is lent as `&` for κ'
 --     comes_back       κ' is over: it is back, at zs
 -- Assumes `Logic`.
 use mathlib.Core.Path.{◌≡◌, refl, sym, ap, subst}
@@ -55,9 +55,9 @@ module _ (R : RattleType) (κ κ' : Lft) (q : Share) (γ : GName) (b o : ℕ) {M
       move ! (2 ∷ 3 ∷ []) $ fjoin ! $ move ! (2 ∷ 0 ∷ []) $ fjoin ! $ move ! (1 ∷ 0 ∷ []) $ fjoin ! $ done !))
 
   module _ (zs : List R.Denot) (room : Room R (length ys)) (e : length zs ≡ length ys) where
-    pub turns-shared : (κ₁ : Lft) (γ₁ : GName) → ent 𝓤 (sep 𝓤 (A.dead κ₁) (sep 𝓤 (sem 𝓛 (LentAgain R κ κ₁ q γ b o γ₁ ys)) (sem 𝓛 (finally R γ₁ zs))))
+    pub turns_shared : (κ₁ : Lft) (γ₁ : GName) → ent 𝓤 (sep 𝓤 (A.dead κ₁) (sep 𝓤 (sem 𝓛 (LentAgain R κ κ₁ q γ b o γ₁ ys)) (sem 𝓛 (finally R γ₁ zs))))
         (H.⇛ (ex 𝓤 (λ (γ₂ : GName). sep 𝓤 (sem 𝓛 ((ShrSlice ℓ' κ' R).own_val (ref γ₂ zs) vals)) (sem 𝓛 (LentShared R κ κ' q γ b o zs ys)))))
-    turns-shared κ₁ γ₁ =
+    turns_shared κ₁ γ₁ =
         qed 𝓛 (‵ (fdead κ₁) ∷ ‵ (LentAgain R κ κ₁ q γ b o γ₁ ys) ∷ ‵ (finally R γ₁ zs) ∷ []) ∵ updating ! $ move ! (1 ∷ []) $ fsplit ! $ move ! (2 ∷ 0 ∷ 3 ∷ []) $
         use3 𝓛 (later (‵ ((Arr (mem R) (length ys)).own_at zs b o))) (slice_back 𝓛 R κ₁ γ₁ zs (length ys) b o) $ await ! tt $ fsplit ! $ drop ! $ use1 𝓛 (‵ (row R full_share zs b o)) (whole_out 𝓛 R zs b o) $
         feq_i ! ℕ (length zs) (length zs) refl $ fjoin ! $

@@ -17,7 +17,7 @@ use Rattle.store.proofs.Gathered.{gathering}
 use Rattle.store.proofs.Writing.{writable}
 use Rattle.rows.specs.Views.{past_at}
 use Rattle.rows.specs.Answers.{Aged, WroteOldest}
-use Rattle.rows.proofs.Trails.{trail, Safe, trail-safe, trail-oldest}
+use Rattle.rows.proofs.Trails.{trail, Safe, trail_safe, trail_oldest}
 use Rattle.rows.proofs.Laying.{Laying, laying_start, laying_end, laying_room, laying_step}
 
 trail_length : (pv : List ℕ) (skip s k : ℕ) → length (trail pv skip s k) ≡ k
@@ -44,7 +44,7 @@ age_start {h} {f} {pv} {k} {skip} {rows} r =
       prevs = d.links.long.prevs;
       most = omega arith;
       few = omega (arith, r.some, of_without sized r.place r.cache.desk.entries, d.lawful.roomy, d.lawful.room.1);
-      safe = rw z (trail-safe d skip r.place r.there k r.some);
+      safe = rw z (trail_safe d skip r.place r.there k r.some);
       laying = rw z (laying_start (rw (map_length (gathering f) (trail pv skip h.back.0 k), trail_length pv skip h.back.0 k) r.room));
     }
 
@@ -92,5 +92,5 @@ pub age_end : {h : Head} {f : Fields} {pv : List ℕ} {k skip : ℕ} {before now
 age_end {h} {f} {pv} {k} {skip} {s = s} {j} v done = record {
   written = λ c i t some w.
       let z : k - j ≡ 0 = omega arith in
-      rw (trail-oldest w.described skip i t k some) at (laying_end (ap (λ (m : ℕ). gather f (trail pv skip s m)) z) v.laying);
+      rw (trail_oldest w.described skip i t k some) at (laying_end (ap (λ (m : ℕ). gather f (trail pv skip s m)) z) v.laying);
 }

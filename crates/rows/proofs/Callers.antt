@@ -64,18 +64,18 @@ module _ {h : Head} {f : Fields} {nx pv st cells : List ℕ} {c : Cache} (d : De
         let l = slot_in_lem d s (only_in i s c.slots.order there) in
         skip_slot i s c.slots.order (λ e. omega (arith, d.links.long.small)) there
 
-    pub budgeted-but : Budgeted h f.weights pv s
-    budgeted-but = record { cache = c; seen = weighted; place = i; there = skips }
+    pub budgeted_but : Budgeted h f.weights pv s
+    budgeted_but = record { cache = c; seen = weighted; place = i; there = skips }
 
-    pub leaves-but : {b r : ℕ} → Leaves h f.weights pv b s r → r ≡ leaving b (without i c.desk.entries)
-    leaves-but p = p.many c i skips weighted
+    pub leaves_but : {b r : ℕ} → Leaves h f.weights pv b s r → r ≡ leaving b (without i c.desk.entries)
+    leaves_but p = p.many c i skips weighted
 
-    pub aged-but : {k : ℕ} {rows : Fields} → k ≤ length (without i c.desk.entries) → Reach k rows → Aged h f pv k s rows
-    aged-but some room = record { cache = c; seen = backward; place = i; there = skips; some = some; room = room }
+    pub aged_but : {k : ℕ} {rows : Fields} → k ≤ length (without i c.desk.entries) → Reach k rows → Aged h f pv k s rows
+    aged_but some room = record { cache = c; seen = backward; place = i; there = skips; some = some; room = room }
 
-    pub wrote-but : {k : ℕ} {rows rows' : Fields} → k ≤ length (without i c.desk.entries) → WroteOldest h f pv k s rows rows'
+    pub wrote_but : {k : ℕ} {rows rows' : Fields} → k ≤ length (without i c.desk.entries) → WroteOldest h f pv k s rows rows'
         → Written (oldest k (without i c.desk.entries)) rows rows'
-    wrote-but some p = p.written c i skips some backward
+    wrote_but some p = p.written c i skips some backward
 
 -- ---- what written rows are
 

@@ -25,7 +25,7 @@ use Rattle.store.proofs.Gathered.{gathering, only_in}
 use Rattle.store.proofs.Described.{slot_in_lem, order_live}
 use Rattle.rows.specs.Views.{Weighted, skipped, past_at, cost_at, Countable}
 use Rattle.rows.specs.Answers.{Budgeted, Leaves}
-use Rattle.rows.proofs.Trails.{trail, Safe, trail-safe, trail-oldest}
+use Rattle.rows.proofs.Trails.{trail, Safe, trail_safe, trail_oldest}
 
 -- ---- a list from its back on
 
@@ -191,7 +191,7 @@ module _ {h : Head} {ws pv : List ℕ} {c : Cache} (w : Weighted h ws pv c) (ski
   all_aged : aged w.codes w.stamps w.values ws pv skip h.back.0 (length (without i c.desk.entries)) ≡ reverse (without i c.desk.entries)
   all_aged =
       let es = without i c.desk.entries in
-      trail-oldest w.backward.described skip i there (length es) (omega arith) ∙ oldest_all es
+      trail_oldest w.backward.described skip i there (length es) (omega arith) ∙ oldest_all es
 
   weighted_stocked : (left : ℕ) → left ≡ h.live + h.weight - cost_at ws skip → Stocked h.slots ws pv skip h.back.0 left (length (without i c.desk.entries))
   weighted_stocked left e =
@@ -202,7 +202,7 @@ module _ {h : Head} {ws pv : List ℕ} {c : Cache} (w : Weighted h ws pv c) (ski
         prevs = d.links.long.prevs;
         few = omega (arith, of_without sized i c.desk.entries, d.lawful.roomy, d.lawful.room.1);
         small = omega (arith, e, (countable d skip i there).small);
-        safe = trail-safe d skip i there (length es) (omega arith);
+        safe = trail_safe d skip i there (length es) (omega arith);
         total = λ cs ss vs.
             omega (
               arith,

@@ -162,14 +162,14 @@ module _ {f : Fields} {nx : List ℕ} {q : Rule} {before now : Fields} {s₀ lef
     rest : removed q (coming f nx s left) ≡ removed q (e ∷ coming f nx (get_or nx s 0) (left - 1))
     rest = ap (removed q) (coming_more f nx s left h ∙ ap (λ (x : Row). x ∷ coming f nx (get_or nx s 0) (left - 1)) (sym re))
 
-    gone-laying : keeps q e ≡ false → Laying (removed q (coming f nx s₀ left₀)) before now n (e ∷ removed q (coming f nx (get_or nx s 0) (left - 1)))
-    gone-laying t = rw (rest ∙ removed_gone q e (coming f nx (get_or nx s 0) (left - 1)) t) at v.laying
+    gone_laying : keeps q e ≡ false → Laying (removed q (coming f nx s₀ left₀)) before now n (e ∷ removed q (coming f nx (get_or nx s 0) (left - 1)))
+    gone_laying t = rw (rest ∙ removed_gone q e (coming f nx (get_or nx s 0) (left - 1)) t) at v.laying
 
-    kept-laying : keeps q e ≡ true → Laying (removed q (coming f nx s₀ left₀)) before now n (removed q (coming f nx (get_or nx s 0) (left - 1)))
-    kept-laying t = rw (rest ∙ removed_kept q e (coming f nx (get_or nx s 0) (left - 1)) t) at v.laying
+    kept_laying : keeps q e ≡ true → Laying (removed q (coming f nx s₀ left₀)) before now n (removed q (coming f nx (get_or nx s 0) (left - 1)))
+    kept_laying t = rw (rest ∙ removed_kept q e (coming f nx (get_or nx s 0) (left - 1)) t) at v.laying
 
     pub sweep_offered : Offered now n q e
-    sweep_offered = record { room = λ t. laying_room (gone-laying t); few = omega (arith, v.few) }
+    sweep_offered = record { room = λ t. laying_room (gone_laying t); few = omega (arith, v.few) }
 
     pub sweep_step : (now' : Fields) (t r : ℕ) → t ≡ get_or nx s 0 → Handed n q e r now now' → Sweeping f nx q before now' s₀ left₀ t (left - 1) r
     sweep_step now' t r rt p =
@@ -177,10 +177,10 @@ module _ {f : Fields} {nx : List ℕ} {q : Rule} {before now : Fields} {s₀ lef
         (split (keeps q e)
         (λ k.
         rw ((p.kept k).0, (p.kept k).1)
-        record { ahead = ahead_step v.ahead h; few = omega (arith, v.few); laying = kept-laying k })
+        record { ahead = ahead_step v.ahead h; few = omega (arith, v.few); laying = kept_laying k })
         (λ k.
         rw (p.gone k).0
-        record { ahead = ahead_step v.ahead h; few = omega (arith, v.few); laying = laying_step (gone-laying k) (p.gone k).1 }))
+        record { ahead = ahead_step v.ahead h; few = omega (arith, v.few); laying = laying_step (gone_laying k) (p.gone k).1 }))
 
 pub sweep_end : {h : Head} {f : Fields} {nx : List ℕ} {q : Rule} {before now : Fields} {s left n : ℕ} → Sweeping f nx q before now h.front.0 h.live s left n → left ≤ 0
     → WroteRemoved h f nx q before now

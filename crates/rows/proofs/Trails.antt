@@ -195,19 +195,19 @@ module _ {h : Head} {f : Fields} {nx pv st cells : List ℕ} {c : Cache} (d : De
   walked = ap (omit skip) (back_walk d.links) ∙ omit_reverse skip c.slots.order ∙ ap reverse omit_order
 
   module _ (k : ℕ) (some : k ≤ length (without i c.desk.entries)) where
-    back-trailed : Trailed h.slots pv skip h.back.0 k (omit skip (walk pv h.back.0 h.live))
-    back-trailed =
+    back_trailed : Trailed h.slots pv skip h.back.0 k (omit skip (walk pv h.back.0 h.live))
+    back_trailed =
         trail_of h.slots pv skip h.back.0 h.live k
         (rw (back_walk d.links) (back_within d.links))
         (rw (back_walk d.links) (omega (arith, of_reverse (times skip) c.slots.order, slot_once d skip)))
         (omega (arith, ap length walked, length-reverse (without i c.slots.order), without_length))
 
-    pub trail-safe : Safe h.slots pv skip h.back.0 k
-    trail-safe = back-trailed.safe
+    pub trail_safe : Safe h.slots pv skip h.back.0 k
+    trail_safe = back_trailed.safe
 
     -- the entries of the trail are the oldest
-    pub trail-oldest : gather f (trail pv skip h.back.0 k) ≡ oldest k (without i c.desk.entries)
-    trail-oldest =
+    pub trail_oldest : gather f (trail pv skip h.back.0 k) ≡ oldest k (without i c.desk.entries)
+    trail_oldest =
         let o = without i c.slots.order in
-        ap (gather f) (back-trailed.same ∙ ap (take k) walked ∙ sym (oldest_take k o (omega (arith, without_length))))
+        ap (gather f) (back_trailed.same ∙ ap (take k) walked ∙ sym (oldest_take k o (omega (arith, without_length))))
         ∙ map_oldest (gathering f) k o ∙ ap (oldest k) gathered_without

@@ -83,13 +83,13 @@ module _ (input : List ℕ) (n : ℕ) where
   ends_inside k at h = omega (arith, line_most (slice at n input), length-slice at n input k)
 
   module _ (k : n ≤ length input) (at : ℕ) (h : at < n) where
-    pub ends-here : get_or input at 0 ≡ newline → line_end input at n ≡ at
+    pub ends_here : get_or input at 0 ≡ newline → line_end input at n ≡ at
     unfolding line_length
-    ends-here q = rw (slice-cons at n input 0 h k, eq-eqb (get_or input at 0) newline q) (omega arith)
+    ends_here q = rw (slice-cons at n input 0 h k, eq-eqb (get_or input at 0) newline q) (omega arith)
 
-    pub ends-later : (get_or input at 0 ≡ newline → ⊥) → line_end input at n ≡ line_end input (at + 1) n
+    pub ends_later : (get_or input at 0 ≡ newline → ⊥) → line_end input at n ≡ line_end input (at + 1) n
     unfolding line_length
-    ends-later q = rw (slice-cons at n input 0 h k, ne_eqb (get_or input at 0) newline q, add-one at) (omega arith)
+    ends_later q = rw (slice-cons at n input 0 h k, ne_eqb (get_or input at 0) newline q, add-one at) (omega arith)
 
 -- ---- going on from line to line
 

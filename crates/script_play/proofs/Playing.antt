@@ -81,8 +81,8 @@ module _ {input : List ℕ} {n : ℕ} {x y : Lent} {from : ℕ} {written : Bool}
     here : from ≡ line_start input n g.line
     here = g.place (still written g.stopped h)
 
-    pub going-cuts : (from ≤ n) × (n ≤ length input)
-    going-cuts = (omega arith, g.inside)
+    pub going_cuts : (from ≤ n) × (n ≤ length input)
+    going_cuts = (omega arith, g.inside)
 
     module _ {to : ℕ} (e : to ≡ line_end input from n) where
       ordered : from ≤ to
@@ -91,15 +91,15 @@ module _ {input : List ℕ} {n : ℕ} {x y : Lent} {from : ℕ} {written : Bool}
       inside : to ≤ n
       inside = omega (arith, ends_inside input n g.inside from (omega arith))
 
-      pub going-takes : Takes input from to y.rows y.out
-      going-takes = record {
+      pub going_takes : Takes input from to y.rows y.out
+      going_takes = record {
         ordered = ordered;
         inside = omega (arith, inside, g.inside);
         room = g.room;
       }
 
-      pub going-further : (to ≤ n) × (n ≤ 32768)
-      going-further = (inside, g.short)
+      pub going_further : (to ≤ n) × (n ≤ 32768)
+      going_further = (inside, g.short)
 
       module _ {next : ℕ} (w : Bool) (m : next ≡ next_line w to n) where
         pub going_less : n - next < n - from

@@ -106,19 +106,19 @@ module _ (l : List ℕ) (a z : ℕ) (h : a < z) (k : z ≤ length l) where
   number_start = rw (cons l a z h k)
 
   module _ (v : ℕ) where
-    pub number-low : get_or l a 0 < 48 → number_after v (slice a z l) ≡ Wrong
-    number-low q = rw (cons l a z h k, lt-leb 48 (get_or l a 0) q)
+    pub number_low : get_or l a 0 < 48 → number_after v (slice a z l) ≡ Wrong
+    number_low q = rw (cons l a z h k, lt-leb 48 (get_or l a 0) q)
 
     module _ (lo : 48 ≤ get_or l a 0) where
-      pub number-high : 57 < get_or l a 0 → number_after v (slice a z l) ≡ Wrong
-      number-high q = rw (cons l a z h k, le-leb 48 (get_or l a 0) lo, lt-leb (get_or l a 0) 57 q)
+      pub number_high : 57 < get_or l a 0 → number_after v (slice a z l) ≡ Wrong
+      number_high q = rw (cons l a z h k, le-leb 48 (get_or l a 0) lo, lt-leb (get_or l a 0) 57 q)
 
       module _ (hi : get_or l a 0 ≤ 57) where
         opened : number_after v (slice a z l) ≡ number_after (10 * v + (get_or l a 0 - 48)) (slice (suc a) z l)
         opened = rw (cons l a z h k, le-leb 48 (get_or l a 0) lo, le-leb (get_or l a 0) 57 hi)
 
-        pub number-wide : (most_wide - (get_or l a 0 - 48)) / 10 < v → number_after v (slice a z l) ≡ Wrong
-        number-wide q =
+        pub number_wide : (most_wide - (get_or l a 0 - 48)) / 10 < v → number_after v (slice a z l) ≡ Wrong
+        number_wide q =
             let far : most_wide < 10 * v + (get_or l a 0 - 48) = omega arith in
             let past : most_wide < value_after (10 * v + (get_or l a 0 - 48)) (slice (suc a) z l) =
             omega (arith, value_grows (10 * v + (get_or l a 0 - 48)) (slice (suc a) z l)) in

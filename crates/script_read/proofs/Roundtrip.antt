@@ -92,9 +92,9 @@ module _ {a : ℕ} (ha : Wide a) where
       unfolding numbers_after
       three_back = rw (number_digits a ha, number_digits b hb, number_digits c hc)
 
-      four-back : {d : ℕ} → Wide d → numbers_of (digits_of a ∷ digits_of b ∷ digits_of c ∷ digits_of d ∷ []) ≡ Four a b c d
+      four_back : {d : ℕ} → Wide d → numbers_of (digits_of a ∷ digits_of b ∷ digits_of c ∷ digits_of d ∷ []) ≡ Four a b c d
       unfolding numbers_after
-      four-back {d} hd = rw (number_digits a ha, number_digits b hb, number_digits c hc, number_digits d hd)
+      four_back {d} hd = rw (number_digits a ha, number_digits b hb, number_digits c hc, number_digits d hd)
 
 widen : {n : ℕ} → Narrow n → Wide n
 widen h = omega arith
@@ -118,23 +118,23 @@ module _ {a : ℕ} (ha : Wide a) where
   single_back w h o r p = call_back w (digits_of a ∷ []) (rw (h, clear a)) o r (one_back ha) p
 
   module _ {b : ℕ} where
-    pair-back : Wide b → (w : List ℕ) {m : Line} → no_space w ≡ true → same w open_word ≡ false → same w retain_word ≡ false → two_of w a b ≡ m
+    pair_back : Wide b → (w : List ℕ) {m : Line} → no_space w ≡ true → same w open_word ≡ false → same w retain_word ≡ false → two_of w a b ≡ m
         → understood (spaced (w ∷ digits_of a ∷ digits_of b ∷ [])) ≡ m
     unfolding no_spaces call_of
-    pair-back hb w h o r p = call_back w (digits_of a ∷ digits_of b ∷ []) (rw (h, clear a, clear b)) o r (two_back ha hb) p
+    pair_back hb w h o r p = call_back w (digits_of a ∷ digits_of b ∷ []) (rw (h, clear a, clear b)) o r (two_back ha hb) p
 
     module _ (hb : Narrow b) {c : ℕ} (hc : Wide c) where
-      triple-back : (w : List ℕ) {m : Line} → no_space w ≡ true → same w open_word ≡ false → same w retain_word ≡ false → three_of w a b c ≡ m
+      triple_back : (w : List ℕ) {m : Line} → no_space w ≡ true → same w open_word ≡ false → same w retain_word ≡ false → three_of w a b c ≡ m
           → understood (spaced (w ∷ digits_of a ∷ digits_of b ∷ digits_of c ∷ [])) ≡ m
       unfolding no_spaces call_of
-      triple-back w h o r p =
+      triple_back w h o r p =
           call_back w (digits_of a ∷ digits_of b ∷ digits_of c ∷ []) (rw (h, clear a, clear b, clear c)) o r (three_back ha (widen hb) hc) p
 
-      fourfold-back : {d : ℕ} → Wide d → (w : List ℕ) {m : Line} → no_space w ≡ true → same w open_word ≡ false → same w retain_word ≡ false → four_of w a b c d ≡ m
+      fourfold_back : {d : ℕ} → Wide d → (w : List ℕ) {m : Line} → no_space w ≡ true → same w open_word ≡ false → same w retain_word ≡ false → four_of w a b c d ≡ m
           → understood (spaced (w ∷ digits_of a ∷ digits_of b ∷ digits_of c ∷ digits_of d ∷ [])) ≡ m
       unfolding no_spaces call_of
-      fourfold-back {d} hd w h o r p =
-          call_back w (digits_of a ∷ digits_of b ∷ digits_of c ∷ digits_of d ∷ []) (rw (h, clear a, clear b, clear c, clear d)) o r (four-back ha (widen hb) hc hd) p
+      fourfold_back {d} hd w h o r p =
+          call_back w (digits_of a ∷ digits_of b ∷ digits_of c ∷ digits_of d ∷ []) (rw (h, clear a, clear b, clear c, clear d)) o r (four_back ha (widen hb) hc hd) p
 
 open_back : (kind c n : ℕ) → kind ≤ 1 → Wide c → Narrow n → understood (printed (Open kind c n)) ≡ Open kind c n
 unfolding understood printed kind_word no_spaces no_space line_of open_of open_numbers kind_line narrow if_call same
@@ -203,12 +203,12 @@ command_back (Pop c) f = single_back f pop_word refl refl refl refl
 command_back (Resize v) f = single_back f resize_word refl refl refl refl
 command_back (FrontMut v) f = single_back f front_mut_word refl refl refl refl
 command_back (BackMut v) f = single_back f back_mut_word refl refl refl refl
-command_back (GetMut c v) f = pair-back f.0 f.1 get_mut_word refl refl refl refl
-command_back (PeekMut c v) f = pair-back f.0 f.1 peek_mut_word refl refl refl refl
-command_back (Put c s v) f = triple-back f.0 f.1 f.2 put_word refl refl refl (rw (le-leb s most_narrow f.1))
-command_back (PutOrModify c s v) f = triple-back f.0 f.1 f.2 put_or_modify_word refl refl refl (rw (le-leb s most_narrow f.1))
-command_back (PutWithWeight c s v d) f = fourfold-back f.0 f.1 f.2 f.3 putw_word refl refl refl (rw (le-leb s most_narrow f.1))
-command_back (TryPutOrModify c s v d) f = fourfold-back f.0 f.1 f.2 f.3 try_put_or_modify_word refl refl refl (rw (le-leb s most_narrow f.1))
+command_back (GetMut c v) f = pair_back f.0 f.1 get_mut_word refl refl refl refl
+command_back (PeekMut c v) f = pair_back f.0 f.1 peek_mut_word refl refl refl refl
+command_back (Put c s v) f = triple_back f.0 f.1 f.2 put_word refl refl refl (rw (le-leb s most_narrow f.1))
+command_back (PutOrModify c s v) f = triple_back f.0 f.1 f.2 put_or_modify_word refl refl refl (rw (le-leb s most_narrow f.1))
+command_back (PutWithWeight c s v d) f = fourfold_back f.0 f.1 f.2 f.3 putw_word refl refl refl (rw (le-leb s most_narrow f.1))
+command_back (TryPutOrModify c s v d) f = fourfold_back f.0 f.1 f.2 f.3 try_put_or_modify_word refl refl refl (rw (le-leb s most_narrow f.1))
 command_back (Retain r) f = retain_back r.number r.not r.low r.high f
 
 nothing_said : understood [] ≡ Unknown

@@ -64,20 +64,20 @@ module _ (l : List ℕ) (a z e : ℕ) (le : a ≤ z) (ne : a ≡ z → ⊥) (k :
   rule_on negated = let h : a < z = omega arith in rw (past l a z e h k r)
 
   module _ {ns m : Numbers} (q : ns ≡ numbers_of (words_past (slice e z l))) (told : ns ≡ m) {line : Line} where
-    pub open-some : line ≡ open_numbers (slice (a + 1) e l) m → line ≡ open_of (words_past (slice a z l))
-    open-some p = rw (open_on, ← q, told) p
+    pub open_some : line ≡ open_numbers (slice (a + 1) e l) m → line ≡ open_of (words_past (slice a z l))
+    open_some p = rw (open_on, ← q, told) p
 
-    pub rule-some : (negated : Bool) → line ≡ rule_numbers negated (slice (a + 1) e l) m → line ≡ rule_line negated (words_past (slice a z l))
-    rule-some negated p = rw (rule_on negated, ← q, told) p
+    pub rule_some : (negated : Bool) → line ≡ rule_numbers negated (slice (a + 1) e l) m → line ≡ rule_line negated (words_past (slice a z l))
+    rule_some negated p = rw (rule_on negated, ← q, told) p
 
   module _ {b : Bool} (q : b ≡ same (slice (a + 1) e l) not_word) {line : Line} where
-    pub retain-not : b ≡ true → line ≡ rule_line true (words_past (slice e z l)) → line ≡ retain_of (words_past (slice a z l))
+    pub retain_not : b ≡ true → line ≡ rule_line true (words_past (slice e z l)) → line ≡ retain_of (words_past (slice a z l))
     unfolding retain_of
-    retain-not t p = let h : a < z = omega arith in rw (past l a z e h k r, ← q, t) p
+    retain_not t p = let h : a < z = omega arith in rw (past l a z e h k r, ← q, t) p
 
-    pub retain-plain : b ≡ false → line ≡ rule_line false (words_past (slice a z l)) → line ≡ retain_of (words_past (slice a z l))
+    pub retain_plain : b ≡ false → line ≡ rule_line false (words_past (slice a z l)) → line ≡ retain_of (words_past (slice a z l))
     unfolding retain_of
-    retain-plain t p =
+    retain_plain t p =
         let h : a < z = omega arith in
         let s = past l a z e h k r in
         rw (s, ← q, t) (rw s at p)
@@ -93,10 +93,10 @@ module _ (l : List ℕ) (a z e : ℕ) (r : Ends l a z e) {b : Bool} (q : b ≡ s
   says_open t p = rw (r.cut, ← q, t) p
 
   module _ (f : b ≡ false) {d : Bool} (s : d ≡ same (slice a e l) retain_word) where
-    pub says-retain : d ≡ true → line ≡ retain_of (words_past (slice e z l)) → line ≡ understood (slice a z l)
+    pub says_retain : d ≡ true → line ≡ retain_of (words_past (slice e z l)) → line ≡ understood (slice a z l)
     unfolding understood line_of
-    says-retain t p = rw (r.cut, ← q, f, ← s, t) p
+    says_retain t p = rw (r.cut, ← q, f, ← s, t) p
 
-    pub says-call : d ≡ false → line ≡ call_of (slice a e l) (numbers_of (words_past (slice e z l))) → line ≡ understood (slice a z l)
+    pub says_call : d ≡ false → line ≡ call_of (slice a e l) (numbers_of (words_past (slice e z l))) → line ≡ understood (slice a z l)
     unfolding understood line_of
-    says-call t p = rw (r.cut, ← q, f, ← s, t) p
+    says_call t p = rw (r.cut, ← q, f, ← s, t) p

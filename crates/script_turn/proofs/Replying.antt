@@ -72,13 +72,13 @@ module _ {stay : Bool} {f : Fields} {n : ℕ} {b₀ : List ℕ} (p : Roomy n f b
     at_most : at ≤ j * most_line
     at_most = omega (arith, w.laid.next, lines_most stay (rows_from j f), rows_length 0 j f)
 
-    pub writing-room : at + most_line ≤ length b
-    writing-room =
+    pub writing_room : at + most_line ≤ length b
+    writing_room =
         let m : suc j * most_line ≤ suc n * most_line = omega (arith, w.few) in
         omega (arith, at_most, laid_size w.laid, p.room)
 
-    pub row-there : j < n → Writable j f
-    row-there h = record {
+    pub row_there : j < n → Writable j f
+    row_there h = record {
       codes = omega (arith, p.reach.codes);
       stamps = omega (arith, p.reach.stamps);
       values = omega (arith, p.reach.values);
@@ -92,8 +92,8 @@ module _ {stay : Bool} {f : Fields} {n : ℕ} {b₀ : List ℕ} (p : Roomy n f b
         let k : j + 1 ≡ suc j = omega arith in
         rw k (record { few = h; laid = subst (λ (x : List ℕ). Laid 0 x r b₀ b') e (laid_then w.laid (subst (λ (x : Row). Laid at (row_line (row_word stay) x) r b b') q l)) })
 
-    pub writing-end : n ≤ j → Laid 0 (row_lines (row_word stay) (rows_from n f)) at b₀ b
-    writing-end h = let e : n ≡ j = omega (arith, w.few) in rw e w.laid
+    pub writing_end : n ≤ j → Laid 0 (row_lines (row_word stay) (rows_from n f)) at b₀ b
+    writing_end h = let e : n ≡ j = omega (arith, w.few) in rw e w.laid
 
 -- ---- the whole text
 
@@ -116,7 +116,7 @@ pub closing_room : (stay : Bool) (f : Fields) (a : Answer) {d at : ℕ} {b₀ b�
     → at + most_line ≤ length b₁
 closing_room stay f a {d} {at} {b₀} {b₁} e p l =
     let w : Writing stay f d b₀ b₁ at d = record { few = omega arith; laid = l } in
-    writing-room (rw e p) w
+    writing_room (rw e p) w
 
 pub roomy_as : (a : Answer) (f : Fields) {d : ℕ} {b : List ℕ} → d ≡ shown a f → Roomy (shown a f) f b → Roomy d f b
 roomy_as a f e p = rw e p

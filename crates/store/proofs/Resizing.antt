@@ -55,8 +55,8 @@ module _ {h : Head} {f : Fields} {nx pv st cells : List ℕ} {n : ℕ} (o : Hold
   }
 
   module _ (r : Head) (g : Fields) (nx' pv' st' : List ℕ) (w : Resized h r nx pv st nx' pv' st' f g n) (lt : n < h.capacity) where
-    moved-reach : Reach r.slots g
-    moved-reach =
+    moved_reach : Reach r.slots g
+    moved_reach =
         let d = o.described in
         let m = (w.shrunk lt).moved o.cache.slots.order o.cache.slots.free d.links in
         record {
@@ -73,19 +73,19 @@ module _ {h : Head} {f : Fields} {nx pv st cells : List ℕ} {n : ℕ} (o : Hold
         ∙ moved_rows entry h.slots c.slots.order f g ((w.shrunk lt).moved c.slots.order c.slots.free d.links)
         ∙ sym (gather_map f c.slots.order) ∙ d.entries
 
-    pub shrunk-keyed : Keyed h.slots cells g.codes nx' (walk nx' r.front.0 r.live)
-    shrunk-keyed =
+    pub shrunk_keyed : Keyed h.slots cells g.codes nx' (walk nx' r.front.0 r.live)
+    shrunk_keyed =
         let d = o.described in
         let c = o.cache in
         let l = (w.shrunk lt).linked c.slots.order c.slots.free d.links in
         subst (λ (k : ℕ). Keyed k cells g.codes nx' (walk nx' r.front.0 r.live)) w.slots
-        (walk_keyed l g cells moved-reach
+        (walk_keyed l g cells moved_reach
         (omega (arith, d.lawful.room.0, d.room, w.slots))
         (omega (arith, d.table.tidy.wide, w.slots))
         (rw (same_entries c d) d.lawful.distinct))
 
-    all-blank : (c : Cache) → Describes h f nx pv st cells c → AllBlank h.slots c.slots.order f
-    all-blank c d = record {
+    all_blank : (c : Cache) → Describes h f nx pv st cells c → AllBlank h.slots c.slots.order f
+    all_blank c d = record {
       codes = λ u k z. ap (λ (e : Row). e.code.0) (d.blanks u k z);
       stamps = λ u k z. ap (λ (e : Row). e.stamp) (d.blanks u k z);
       values = λ u k z. ap (λ (e : Row). e.value) (d.blanks u k z);
@@ -93,9 +93,9 @@ module _ {h : Head} {f : Fields} {nx pv st cells : List ℕ} {n : ℕ} (o : Hold
     }
 
     -- a smaller capacity, and the table made anew
-    pub capped-shrunk : (cells' : List ℕ) → Rebuilt (home_of h.slots) (2 * h.slots) g.codes (walk nx' r.front.0 r.live) cells cells'
+    pub capped_shrunk : (cells' : List ℕ) → Rebuilt (home_of h.slots) (2 * h.slots) g.codes (walk nx' r.front.0 r.live) cells cells'
         → Capped h f nx pv st cells r g nx' pv' st' cells' n
-    capped-shrunk cells' b = record {
+    capped_shrunk cells' b = record {
       tails =
           let q = w.shrunk lt in
           let m = q.moved o.cache.slots.order o.cache.slots.free o.described.links in
@@ -115,7 +115,7 @@ module _ {h : Head} {f : Fields} {nx pv st cells : List ℕ} {n : ℕ} (o : Hold
           let free = c.slots.free in
           let l : Linked r nx' pv' st' (up_from 0 (length order)) (up_from (length order) (min c.slots.top n - length order)) [] =
           rw (← d.top) (q.linked order free d.links) in
-          let blanks = moved_blank h.slots order f g (q.moved order free d.links) (all-blank c d) in
+          let blanks = moved_blank h.slots order f g (q.moved order free d.links) (all_blank c d) in
           let eq : (capped n c).slots ≡ compacted n c.slots = rw (lt-ltb n c.desk.capacity (omega (arith, d.capacity))) in
           subst (λ (z : Slots). Describes r g nx' pv' st' cells' (record { desk = (capped n c).desk; slots = z })) (sym eq)
           (record {
@@ -125,7 +125,7 @@ module _ {h : Head} {f : Fields} {nx pv st cells : List ℕ} {n : ℕ} (o : Hold
             weight = w.weight ∙ d.weight;
             top = q.top ∙ ap (λ (t : ℕ). min t n) d.top;
             lawful = refit n c d.lawful o.allowed.0 o.allowed.1 fits;
-            reach = moved-reach;
+            reach = moved_reach;
             links = l;
             entries = same_entries c d;
             blanks = λ u k z.

@@ -172,11 +172,11 @@ module _ {h : Head} {f : Fields} {nx pv st cells : List ℕ} {e : Row} (a : Admi
   admits_weight = omega (arith, a.takes.within, a.described.weight, a.described.lawful.capacity.1)
 
   module _ (t : Taken) (nx' pv' st' : List ℕ) (p : list.Pushed h t nx pv st nx' pv' st') where
-    pub admits-writable : Writable t.slot.0 f
-    admits-writable = writable (pushed_slot a.described t nx' pv' st' p).1 a.described.reach
+    pub admits_writable : Writable t.slot.0 f
+    admits_writable = writable (pushed_slot a.described t nx' pv' st' p).1 a.described.reach
 
-    pub admits-slotted : (g : Fields) → Wrote t.slot.0 e f g → table.Slotted (2 * h.slots) cells g.codes t.slot.0
-    admits-slotted g w =
+    pub admits_slotted : (g : Fields) → Wrote t.slot.0 e f g → table.Slotted (2 * h.slots) cells g.codes t.slot.0
+    admits_slotted g w =
         let k = pushed_slot a.described t nx' pv' st' p in
         let q = wrote_changed k.1 a.described.reach w in
         record {
@@ -184,16 +184,16 @@ module _ {h : Head} {f : Fields} {nx pv st cells : List ℕ} {e : Row} (a : Admi
           coded = omega (arith, k.1, (wrote_reach k.1 a.described.reach w).codes);
         }
 
-    pub added-ok : (g : Fields) (cells' : List ℕ) → Wrote t.slot.0 e f g
+    pub added_ok : (g : Fields) (cells' : List ℕ) → Wrote t.slot.0 e f g
         → cells' ≡ table.inserted (home_of h.slots) (2 * h.slots) cells g.codes t.slot.0
         → Added h f nx pv st cells (reweighed (h.weight + e.weight) t.head) g nx' pv' st' cells' e
-    added-ok g cells' w same =
+    added_ok g cells' w same =
         let k = (pushed_slot a.described t nx' pv' st' p).1 in
         let r = a.described.reach in
         let d₀ = a.described in
         record {
           tails =
               wrote_tails k r w p.next_tail p.prev_tail p.stack_tail
-              (rw same (insert_tail (home_lt (omega (arith, d₀.lawful.room.0, d₀.room))) (admits-slotted g w).table t.slot.0));
+              (rw same (insert_tail (home_lt (omega (arith, d₀.lawful.room.0, d₀.room))) (admits_slotted g w).table t.slot.0));
           described = λ c takes new d. add_described d t g nx' pv' st' cells' e p (wrote_changed k r w) (wrote_reach k r w) same takes new;
         }

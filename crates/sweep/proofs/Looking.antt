@@ -129,8 +129,8 @@ module _ {h₀ : Head} {f₀ : Fields} {nx₀ pv₀ st₀ cells₀ : List ℕ} {
             table = e.table;
           })
 
-      fewer-live : Dropped h f nx pv st cells r g nx' pv' st' cells' slot → r.live < h.live
-      fewer-live p =
+      fewer_live : Dropped h f nx pv st cells r g nx' pv' st' cells' slot → r.live < h.live
+      fewer_live p =
           let o = look in
           let at = there (after (moves.sweep q) w.cache) o in
           let d = p.described o.cache o.kept at o.described in
@@ -139,7 +139,7 @@ module _ {h₀ : Head} {f₀ : Fields} {nx₀ pv₀ st₀ cells₀ : List ℕ} {
       goes : keep ≡ false → Sweeping h₀ f₀ nx₀ pv₀ st₀ cells₀ q r g nx' pv' st' cells' (get_or nx slot 0) (left - 1)
       goes t =
           let p = j.dropped t in
-          let gone = fewer-live p in
+          let gone = fewer_live p in
           record {
             tails = tails_trans e.tails (rw (sym slots_same) p.tails);
             onward = λ c d.

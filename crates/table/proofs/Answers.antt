@@ -17,7 +17,7 @@ use Rattle.table.specs.Orders.{Same}
 use Rattle.table.specs.Acts.{Slotted, Holding}
 use Rattle.table.proofs.Ring.{eq_or_ne}
 use Rattle.table.proofs.Seek.{answer_none, answer_some}
-use Rattle.table.proofs.Found.{found_at, lookup_cases, sound_open, counted, found-live, empty-absent, live-found}
+use Rattle.table.proofs.Found.{found_at, lookup_cases, sound_open, counted, found_live, empty_absent, live_found}
 
 -- ---- the count
 
@@ -71,13 +71,13 @@ module _ {home : ℕ → ℕ} {m : ℕ} {cells codes order : List ℕ} (hb : (c 
   live_answer {s} h =
       let x = get_or codes s 0 in
       ⊎_elim
-      (λ f. (f.1, f.2, f.3 ∙ ap (λ (y : ℕ). Found (slot_of y) f.1 f.2) (live-found d x (hb x) s h refl f.3)))
-      (λ f. absurd (empty-absent d x (hb x) f.2 s h refl))
+      (λ f. (f.1, f.2, f.3 ∙ ap (λ (y : ℕ). Found (slot_of y) f.1 f.2) (live_found d x (hb x) s h refl f.3)))
+      (λ f. absurd (empty_absent d x (hb x) f.2 s h refl))
       (lookup_cases cells codes m (home x) x (sound_open d) (hb x))
 
   -- what is found is live and has the code
   pub found_answer : {code s cell count : ℕ} → sought home m cells codes code ≡ Found (slot_of s) cell count → Memᴰ s order × (get_or codes s 0 ≡ code)
-  found_answer {code} q = (found-live d code (hb code) q, (found_at cells codes m (home code) code (sound_open d) (hb code) q).coded)
+  found_answer {code} q = (found_live d code (hb code) q, (found_at cells codes m (home code) code (sound_open d) (hb code) q).coded)
 
   -- where no live slot has the code, the search ends at an empty cell
   pub absent_answer : {code : ℕ} → ((s : ℕ) → Memᴰ s order → get_or codes s 0 ≢ code) → (cell : ℕ) × (count : ℕ) × (sought home m cells codes code ≡ Empty cell count)
@@ -89,7 +89,7 @@ module _ {home : ℕ → ℕ} {m : ℕ} {cells codes order : List ℕ} (hb : (c 
 
   -- and only there
   pub empty_answer : {code cell count : ℕ} → sought home m cells codes code ≡ Empty cell count → (s : ℕ) → Memᴰ s order → get_or codes s 0 ≢ code
-  empty_answer {code} q = empty-absent d code (hb code) q
+  empty_answer {code} q = empty_absent d code (hb code) q
 
   -- ---- on the way to an act
 
@@ -101,13 +101,13 @@ module _ {home : ℕ → ℕ} {m : ℕ} {cells codes order : List ℕ} (hb : (c 
 
   -- a live slot's search does not end at an empty cell, and the cell that it finds holds the slot
   pub live_full : {s cell count : ℕ} → Memᴰ s order → sought home m cells codes (get_or codes s 0) ≡ Empty cell count → ⊥
-  live_full {s} h q = empty-absent d (get_or codes s 0) (hb (get_or codes s 0)) q s h refl
+  live_full {s} h q = empty_absent d (get_or codes s 0) (hb (get_or codes s 0)) q s h refl
 
   pub live_holding : {s x cell count : ℕ} → Memᴰ s order → sought home m cells codes (get_or codes s 0) ≡ Found (slot_of x) cell count → Holding home m cells codes cell × (get_or cells cell 0 ≡ s)
   live_holding {s} h q =
       let x = get_or codes s 0 in
       let f = found_holding x q in
-      (f.0, f.1 ∙ live-found d x (hb x) s h refl q)
+      (f.0, f.1 ∙ live_found d x (hb x) s h refl q)
 
   pub live_slotted : {s : ℕ} → Memᴰ s order → Slotted m cells codes s
   live_slotted {s} h = record { table = sound_open d; coded = (d.slot s h).0 }

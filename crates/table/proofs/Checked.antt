@@ -26,7 +26,7 @@ use Rattle.table.proofs.Members.{walk_on, walk_end}
 use Rattle.table.proofs.Count.{filled_none, filled_some, gap}
 use Rattle.table.proofs.Tallies.{tallied_here, tallied_below, counts_all, all_counts}
 use Rattle.table.proofs.Answers.{named, names_found}
-use Rattle.table.proofs.Found.{found_at, lookup_cases, few, sound_open, empty-absent, live-found}
+use Rattle.table.proofs.Found.{found_at, lookup_cases, few, sound_open, empty_absent, live_found}
 
 -- ---- as many as are live
 
@@ -105,8 +105,8 @@ module _ {home : ℕ → ℕ} {m : ℕ} {cells codes order : List ℕ} (room : l
         let f = found_at cells codes m (home (get_or codes s 0)) (get_or codes s 0) op (hb (get_or codes s 0)) (k.found s h).2 in
         record { cell = (k.found s h).0; cell_in = f.cell_in; holds = f.holds }
 
-    stands-c : (s : ℕ) → Memᴰ s order → (s ≢ none_mark) × In (length c) c s
-    stands-c s h =
+    stands_c : (s : ℕ) → Memᴰ s order → (s ≢ none_mark) × In (length c) c s
+    stands_c s h =
         let w = stands s h in
         ((real s h).1, record { cell = w.cell; cell_in = omega (arith, w.cell_in, n); holds = at w.cell w.cell_in ∙ w.holds })
 
@@ -117,7 +117,7 @@ module _ {home : ℕ → ℕ} {m : ℕ} {cells codes order : List ℕ} (room : l
           arith,
           k.full,
           enough (get_or cells p 0 ∷ order) c (distinct_more (get_or cells p 0) order h d) (λ y g.
-              ⊎_elim (λ (q : y ≡ get_or cells p 0). ((λ z. e (sym q ∙ z)), record { cell = p; cell_in = omega (arith, n); holds = at p l ∙ sym q })) (λ g'. stands-c y g') (Memᴰ.cases_cons g)),
+              ⊎_elim (λ (q : y ≡ get_or cells p 0). ((λ z. e (sym q ∙ z)), record { cell = p; cell_in = omega (arith, n); holds = at p l ∙ sym q })) (λ g'. stands_c y g') (Memᴰ.cases_cons g)),
         )))
         (member (get_or cells p 0) order)
 
@@ -129,7 +129,7 @@ module _ {home : ℕ → ℕ} {m : ℕ} {cells codes order : List ℕ} (room : l
           k.full,
           filled_set c q (omega (arith, n)) (λ z. e (g ∙ sym (at q ql) ∙ z)),
           enough order (set c q none_mark) d (λ y w.
-              let v = stands-c y w in (
+              let v = stands_c y w in (
                 v.0,
                 ⊎_elim
                     (λ (a : v.1.cell ≡ q). record {
@@ -147,8 +147,8 @@ module _ {home : ℕ → ℕ} {m : ℕ} {cells codes order : List ℕ} (room : l
         )))
         (eq_or_ne p q)
 
-    pub checked-sound : Sound home m cells codes order
-    checked-sound =
+    pub checked_sound : Sound home m cells codes order
+    checked_sound =
         record {
           tidy = record { wide = k.wide; once = once; homed = homed };
           room = room;
@@ -193,8 +193,8 @@ module _ {home : ℕ → ℕ} {m : ℕ} {cells codes order : List ℕ} (room : l
         found = λ s h.
             let x = get_or codes s 0 in
             ⊎_elim
-            (λ f. let q = live-found v x (hb x) s h refl f.3 in (f.1, f.2, f.3 ∙ ap (λ (y : ℕ). Found (slot_of y) f.1 f.2) q))
-            (λ f. absurd (empty-absent v x (hb x) f.2 s h refl))
+            (λ f. let q = live_found v x (hb x) s h refl f.3 in (f.1, f.2, f.3 ∙ ap (λ (y : ℕ). Found (slot_of y) f.1 f.2) q))
+            (λ f. absurd (empty_absent v x (hb x) f.2 s h refl))
             (lookup_cases cells codes m (home x) x (sound_open v) (hb x));
       }
 
@@ -233,36 +233,36 @@ module _ {home : ℕ → ℕ} {n : ℕ} {cells codes next order : List ℕ} (hb 
   sound_standing d = all_standing_lem hb cells codes order (sound_checked l.room hb l.once l.coded d).found
 
   module _ (passed : tallied (length codes) (take (2 * n) cells) ≡ All (length order)) where
-    pub tallied-open : Gapped (2 * n) cells codes
-    tallied-open =
+    pub tallied_open : Gapped (2 * n) cells codes
+    tallied_open =
         let b = tallied_below (length codes) (2 * n) cells l.wide passed in
         counted_open l.wide (omega (arith, b.0, l.room)) b.1
 
     -- what passes is sound
-    pub tested-sound : all_standing home (2 * n) cells codes order ≡ true → Sound home (2 * n) cells codes order
-    tested-sound e =
+    pub tested_sound : all_standing home (2 * n) cells codes order ≡ true → Sound home (2 * n) cells codes order
+    tested_sound e =
         let b = tallied_below (length codes) (2 * n) cells l.wide passed in
-        checked-sound l.room hb l.once l.coded (record {
+        checked_sound l.room hb l.once l.coded (record {
           wide = l.wide;
           slots = b.1;
           full = sym b.0;
-          found = standing_all hb cells codes tallied-open order e;
+          found = standing_all hb cells codes tallied_open order e;
         })
 
   -- ---- the answers of `inspect_cells`, where so many slots are live
 
   module _ {live : ℕ} (many : length order ≡ live) where
-    pub sound-counts : Sound home (2 * n) cells codes order → counts live (tallied (length codes) (take (2 * n) cells)) ≡ true
-    sound-counts d = all_counts live (tallied (length codes) (take (2 * n) cells)) (sound_tallied d ∙ ap (λ (x : ℕ). All x) many)
+    pub sound_counts : Sound home (2 * n) cells codes order → counts live (tallied (length codes) (take (2 * n) cells)) ≡ true
+    sound_counts d = all_counts live (tallied (length codes) (take (2 * n) cells)) (sound_tallied d ∙ ap (λ (x : ℕ). All x) many)
 
-    pub inspect-count : counts live (tallied (length codes) (take (2 * n) cells)) ≡ false → Decides false (Sound home (2 * n) cells codes order)
-    inspect-count e = record { yes = λ z. absurd (false≢true z); no = λ d. sym e ∙ sound-counts d }
+    pub inspect_count : counts live (tallied (length codes) (take (2 * n) cells)) ≡ false → Decides false (Sound home (2 * n) cells codes order)
+    inspect_count e = record { yes = λ z. absurd (false≢true z); no = λ d. sym e ∙ sound_counts d }
 
-    pub inspect-passed : counts live (tallied (length codes) (take (2 * n) cells)) ≡ true → tallied (length codes) (take (2 * n) cells) ≡ All (length order)
-    inspect-passed e = counts_all live (tallied (length codes) (take (2 * n) cells)) e ∙ ap (λ (x : ℕ). All x) (sym many)
+    pub inspect_passed : counts live (tallied (length codes) (take (2 * n) cells)) ≡ true → tallied (length codes) (take (2 * n) cells) ≡ All (length order)
+    inspect_passed e = counts_all live (tallied (length codes) (take (2 * n) cells)) e ∙ ap (λ (x : ℕ). All x) (sym many)
 
   pub inspect_rest : {b : Bool} → tallied (length codes) (take (2 * n) cells) ≡ All (length order) → b ≡ all_standing home (2 * n) cells codes order → Decides b (Sound home (2 * n) cells codes order)
-  inspect_rest p e = record { yes = λ z. tested-sound p (sym e ∙ z); no = λ d. e ∙ sound_standing d }
+  inspect_rest p e = record { yes = λ z. tested_sound p (sym e ∙ z); no = λ d. e ∙ sound_standing d }
 
 -- ---- the loop of `all_stand`: from slot `slot` on, live - i slots are left
 
@@ -292,18 +292,18 @@ module _ {home : ℕ → ℕ} {m : ℕ} {cells codes next : List ℕ} {whole : B
     opened : walk next slot (live - i) ≡ slot ∷ walk next (get_or next slot 0) (live - (i + 1))
     opened = walk_on next slot live i h
 
-    pub ask-coded : (slot < length codes) × (slot < length next)
-    ask-coded = v.coded slot (subst (Memᴰ slot) (sym opened) (Memᴰ.head refl))
+    pub ask_coded : (slot < length codes) × (slot < length next)
+    ask_coded = v.coded slot (subst (Memᴰ slot) (sym opened) (Memᴰ.head refl))
 
     split : whole ≡ (standing home m cells codes slot && all_standing home m cells codes (walk next (get_or next slot 0) (live - (i + 1))))
     unfolding all_standing
     split = v.same ∙ ap (all_standing home m cells codes) opened
 
-    pub ask-no : {b : Bool} → b ≡ standing home m cells codes slot → b ≡ false → false ≡ whole
-    ask-no q e = let z : standing home m cells codes slot ≡ false = sym q ∙ e in sym (rw z at split)
+    pub ask_no : {b : Bool} → b ≡ standing home m cells codes slot → b ≡ false → false ≡ whole
+    ask_no q e = let z : standing home m cells codes slot ≡ false = sym q ∙ e in sym (rw z at split)
 
-    pub ask-on : {b : Bool} {y t : ℕ} → b ≡ standing home m cells codes slot → b ≡ true → y ≡ slot → t ≡ get_or next y 0 → Asking home m cells codes next whole live t (i + 1)
-    ask-on {b} {y} {t} q e r w =
+    pub ask_on : {b : Bool} {y t : ℕ} → b ≡ standing home m cells codes slot → b ≡ true → y ≡ slot → t ≡ get_or next y 0 → Asking home m cells codes next whole live t (i + 1)
+    ask_on {b} {y} {t} q e r w =
         let z : standing home m cells codes slot ≡ true = sym q ∙ e in
         let u : get_or next slot 0 ≡ t = sym (w ∙ ap (λ (x : ℕ). get_or next x 0) r) in
         record {

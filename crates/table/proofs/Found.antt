@@ -16,8 +16,8 @@ use Rattle.head.specs.Bounds.{none_mark}
 use Rattle.table.specs.Cells.{slot_of, wrap, ring, stops, passed, answer, lookup}
 use Rattle.table.specs.Sound.{Run, here, Gapped, Sound}
 use Rattle.table.specs.Acts.{filled}
-use Rattle.table.proofs.Ring.{eq_or_ne, wrap_zero, next_wrap, ring-length, ring-at, past_stop, past_before}
-use Rattle.table.proofs.Seek.{at, stops_none, stops_code, stops_not, passed_lt, reads_in, lookup-at, answer_none, answer_some}
+use Rattle.table.proofs.Ring.{eq_or_ne, wrap_zero, next_wrap, ring_length, ring_at, past_stop, past_before}
+use Rattle.table.proofs.Seek.{at, stops_none, stops_code, stops_not, passed_lt, reads_in, lookup_at, answer_none, answer_some}
 use Rattle.table.proofs.Count.{pigeons, filled_ring, past_filled, gap}
 use Rattle.table.proofs.Runs.{run_more, run_tail, run_stop}
 
@@ -51,18 +51,18 @@ module _ (cells codes : List ℕ) (m h code : ℕ) (o : Gapped m cells codes) (h
   goes : (k : ℕ) → k < P → stops codes code (at cells codes m h code o hm k) ≡ false
   unfolding P
   goes k l =
-      ap (stops codes code) (sym (ring-at cells m o.wide h hm k (omega (arith, passed_lt cells codes m h code o hm))))
+      ap (stops codes code) (sym (ring_at cells m o.wide h hm k (omega (arith, passed_lt cells codes m h code o hm))))
       ∙ past_before (stops codes code) (ring cells m h) 0 k l
 
   stopped : stops codes code last ≡ true
   unfolding P last
   stopped =
-      ap (stops codes code) (sym (ring-at cells m o.wide h hm P (passed_lt cells codes m h code o hm)))
-      ∙ past_stop (stops codes code) (ring cells m h) 0 (omega (arith, passed_lt cells codes m h code o hm, ring-length cells m o.wide h hm))
+      ap (stops codes code) (sym (ring_at cells m o.wide h hm P (passed_lt cells codes m h code o hm)))
+      ∙ past_stop (stops codes code) (ring cells m h) 0 (omega (arith, passed_lt cells codes m h code o hm, ring_length cells m o.wide h hm))
 
   ended : lookup cells codes m h code ≡ answer last (wrap m (h + P)) (P + 1)
   unfolding P last
-  ended = lookup-at cells codes m h code o hm P (omega arith) stopped
+  ended = lookup_at cells codes m h code o hm P (omega arith) stopped
 
   -- the cells that are passed are a run
   runs : (k : ℕ) → k ≤ P → Run cells m (wrap m (h + k)) h
@@ -168,13 +168,13 @@ module _ {home : ℕ → ℕ} {m : ℕ} {cells codes order : List ℕ} (d : Soun
     pub counted : passed cells codes m (home code) code ≤ length order
     counted = omega (arith, few, filled_ring cells m (home code), past_filled (stops codes code) (stops_none codes code) (ring cells m (home code)))
 
-    pub found-live : {s cell count : ℕ} → lookup cells codes m (home code) code ≡ Found (slot_of s) cell count → Memᴰ s order
-    found-live q =
+    pub found_live : {s cell count : ℕ} → lookup cells codes m (home code) code ≡ Found (slot_of s) cell count → Memᴰ s order
+    found_live q =
         let f = found_at cells codes m (home code) code sound_open hm q in
         Memᴰ.cast (sym f.holds) (d.only _ f.cell_in (λ z. f.real (sym f.holds ∙ z)))
 
-    pub empty-absent : {cell count : ℕ} → lookup cells codes m (home code) code ≡ Empty cell count → (s : ℕ) → Memᴰ s order → get_or codes s 0 ≢ code
-    empty-absent q s live e =
+    pub empty_absent : {cell count : ℕ} → lookup cells codes m (home code) code ≡ Empty cell count → (s : ℕ) → Memᴰ s order → get_or codes s 0 ≢ code
+    empty_absent q s live e =
         let g = empty_at cells codes m (home code) code sound_open hm q in
         let w = d.live s live in
         let k : get_or codes (get_or cells w.cell 0) 0 ≡ code = ap (λ (x : ℕ). get_or codes x 0) w.holds ∙ e in
@@ -184,5 +184,5 @@ module _ {home : ℕ → ℕ} {m : ℕ} {cells codes order : List ℕ} (d : Soun
         (d.slot s live).1 (sym w.holds ∙ ap (λ (i : ℕ). get_or cells i 0) (sym a) ∙ g.holds)
 
     -- a live slot's code is found, in that slot
-    pub live-found : {s cell count : ℕ} → (t : ℕ) → Memᴰ t order → get_or codes t 0 ≡ code → lookup cells codes m (home code) code ≡ Found (slot_of s) cell count → s ≡ t
-    live-found {s} t live e q = d.differ s t (found-live q) live ((found_at cells codes m (home code) code sound_open hm q).coded ∙ sym e)
+    pub live_found : {s cell count : ℕ} → (t : ℕ) → Memᴰ t order → get_or codes t 0 ≡ code → lookup cells codes m (home code) code ≡ Found (slot_of s) cell count → s ≡ t
+    live_found {s} t live e q = d.differ s t (found_live q) live ((found_at cells codes m (home code) code sound_open hm q).coded ∙ sym e)

@@ -15,7 +15,7 @@ use Rattle.head.specs.Tails.{Tail}
 use Rattle.table.specs.Acts.{inserted, placed}
 use Rattle.table.proofs.Ring.{eq_or_ne}
 use Rattle.table.proofs.Runs.{run_keep}
-use Rattle.table.proofs.Found.{empty_at, lookup_cases, sound_open, found_at, found-live}
+use Rattle.table.proofs.Found.{empty_at, lookup_cases, sound_open, found_at, found_live}
 
 module _ {home : ℕ → ℕ} {m : ℕ} {cells codes order : List ℕ} (d : Sound home m cells codes order)
     (s e : ℕ) (real : (s < length codes) × (s ≢ none_mark)) (fresh : (t : ℕ) → Memᴰ t order → get_or codes t 0 ≢ get_or codes s 0)
@@ -101,7 +101,7 @@ unfolding placed
 insert_sound {home} {m} {cells} {codes} {order} hb d s real fresh room =
     let x = get_or codes s 0 in
     ⊎_elim
-    (λ f. absurd (fresh f.0 (found-live d x (hb x) f.3) (found_at cells codes m (home x) x (sound_open d) (hb x) f.3).coded))
+    (λ f. absurd (fresh f.0 (found_live d x (hb x) f.3) (found_at cells codes m (home x) x (sound_open d) (hb x) f.3).coded))
     (λ f. let e = empty_at cells codes m (home x) x (sound_open d) (hb x) f.2 in
     subst (λ (r : Search). Sound home m (placed r cells s) codes (s ∷ order)) (sym f.2)
     (placed_sound d s f.0 real fresh room e.cell_in e.holds e.run))

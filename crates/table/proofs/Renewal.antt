@@ -95,15 +95,15 @@ module _ {home : ℕ → ℕ} {n : ℕ} {cells₀ codes next order cells : List 
     here : Memᴰ slot order
     here = v.will slot (subst (Memᴰ slot) (sym opened) (Memᴰ.head refl))
 
-    pub renew-slotted : Slotted (2 * n) cells codes slot
-    renew-slotted = record { table = sound_open v.sound; coded = (v.keyed.listed.coded slot here).0 }
+    pub renew_slotted : Slotted (2 * n) cells codes slot
+    renew_slotted = record { table = sound_open v.sound; coded = (v.keyed.listed.coded slot here).0 }
 
-    pub renew-linked : slot < length next
-    renew-linked = v.keyed.listed.linked slot here
+    pub renew_linked : slot < length next
+    renew_linked = v.keyed.listed.linked slot here
 
-    pub renew-on : {cells' : List ℕ} {y t : ℕ} → cells' ≡ inserted home (2 * n) cells codes slot → y ≡ slot → t ≡ get_or next y 0
+    pub renew_on : {cells' : List ℕ} {y t : ℕ} → cells' ≡ inserted home (2 * n) cells codes slot → y ≡ slot → t ≡ get_or next y 0
         → Renewing home n cells₀ codes next order cells' live t (i + 1)
-    renew-on {cells'} {y} {t} e q r =
+    renew_on {cells'} {y} {t} e q r =
         let onward : rest ≡ walk next t (live - (i + 1)) = ap (λ (x : ℕ). walk next x (live - (i + 1))) (sym (r ∙ ap (λ (x : ℕ). get_or next x 0) q)) in
         let once' : Distinct (slot ∷ rest) = subst Distinct opened v.once in
         record {

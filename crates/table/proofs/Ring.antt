@@ -89,17 +89,17 @@ module _ (cells : List ℕ) (m : ℕ) (wide : m ≤ length cells) where
     first : length (drop h (take m cells)) ≡ m - h
     first = length-drop h (take m cells) ∙ ap (λ (x : ℕ). x - h) whole
 
-    pub ring-length : length (ring cells m h) ≡ m
+    pub ring_length : length (ring cells m h) ≡ m
     unfolding ring
-    ring-length =
+    ring_length =
         length-append (drop h (take m cells)) (take h (take m cells))
         ∙ ap (λ (x : ℕ). x + length (take h (take m cells))) first
         ∙ ap (λ (x : ℕ). m - h + x) (length-take-le h (take m cells) (omega (arith, whole)))
         ∙ omega arith
 
-    pub ring-at : (k : ℕ) → k < m → get_or (ring cells m h) k 0 ≡ get_or cells (wrap m (h + k)) 0
+    pub ring_at : (k : ℕ) → k < m → get_or (ring cells m h) k 0 ≡ get_or cells (wrap m (h + k)) 0
     unfolding ring
-    ring-at k km =
+    ring_at k km =
         ⊎_elim
         (λ e. get_or-append (drop h (take m cells)) (take h (take m cells)) 0 k (omega (arith, first))
         ∙ get_or-drop h (take m cells) k 0 ∙ get_or-take m cells (h + k) 0 e.0 ∙ ap (λ (x : ℕ). get_or cells x 0) (sym e.1))

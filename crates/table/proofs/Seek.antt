@@ -13,7 +13,7 @@ use Rattle.table.specs.declared.Search.TheVariants.{Found, Empty}
 use Rattle.head.specs.Bounds.{none_mark}
 use Rattle.table.specs.Cells.{slot_of, wrap, cell_after, ring, stops, passed, answer, lookup}
 use Rattle.table.specs.Sound.{Gapped}
-use Rattle.table.proofs.Ring.{or_right, wrap_in, wrap_lt, next_wrap, way, ring-length, ring-at, past_lt, ends, goes_on}
+use Rattle.table.proofs.Ring.{or_right, wrap_in, wrap_lt, next_wrap, way, ring_length, ring_at, past_lt, ends, goes_on}
 
 pub stops_none : (codes : List ℕ) (code x : ℕ) → x ≡ none_mark → stops codes code x ≡ true
 unfolding stops
@@ -44,33 +44,33 @@ module _ (cells codes : List ℕ) (m h code : ℕ) (o : Gapped m cells codes) (h
   passed_lt =
       let w = way m h o.gap hm o.gap_in in
       let here : at w.0 ≡ none_mark = ap (λ (i : ℕ). get_or cells i 0) w.2 ∙ o.gap_none in
-      subst (λ (x : ℕ). passed cells codes m h code < x) (ring-length cells m o.wide h hm)
-      (past_lt (stops codes code) (ring cells m h) 0 w.0 (omega (arith, ring-length cells m o.wide h hm, w.1))
-      (stops_none codes code _ (ring-at cells m o.wide h hm w.0 w.1 ∙ here)))
+      subst (λ (x : ℕ). passed cells codes m h code < x) (ring_length cells m o.wide h hm)
+      (past_lt (stops codes code) (ring cells m h) 0 w.0 (omega (arith, ring_length cells m o.wide h hm, w.1))
+      (stops_none codes code _ (ring_at cells m o.wide h hm w.0 w.1 ∙ here)))
 
   module _ (k : ℕ) (hk : k ≤ passed cells codes m h code) where
     read : get_or (ring cells m h) k 0 ≡ at k
-    read = ring-at cells m o.wide h hm k (omega (arith, passed_lt))
+    read = ring_at cells m o.wide h hm k (omega (arith, passed_lt))
 
     pub reads_in : wrap m (h + k) < m
     reads_in = wrap_lt m h k hm (omega (arith, passed_lt))
 
     pub passes : at k ≢ none_mark → get_or codes (at k) 0 ≢ code → k < passed cells codes m h code
     passes e f =
-        goes_on (stops codes code) (ring cells m h) 0 k hk (omega (arith, passed_lt, ring-length cells m o.wide h hm))
+        goes_on (stops codes code) (ring cells m h) 0 k hk (omega (arith, passed_lt, ring_length cells m o.wide h hm))
         (ap (stops codes code) read ∙ stops_not codes code (at k) e f)
 
-    pub lookup-at : stops codes code (at k) ≡ true → lookup cells codes m h code ≡ answer (at k) (wrap m (h + k)) (k + 1)
+    pub lookup_at : stops codes code (at k) ≡ true → lookup cells codes m h code ≡ answer (at k) (wrap m (h + k)) (k + 1)
     unfolding lookup
-    lookup-at s =
+    lookup_at s =
         ap (λ (p : ℕ). answer (get_or (ring cells m h) p 0) (wrap m (h + p)) (p + 1)) (ends (stops codes code) (ring cells m h) 0 k hk (ap (stops codes code) read ∙ s))
         ∙ ap (λ (x : ℕ). answer x (wrap m (h + k)) (k + 1)) read
 
-    pub lookup-none : at k ≡ none_mark → lookup cells codes m h code ≡ Empty (wrap m (h + k)) (k + 1)
-    lookup-none e = lookup-at (stops_none codes code (at k) e) ∙ answer_none (at k) (wrap m (h + k)) (k + 1) e
+    pub lookup_none : at k ≡ none_mark → lookup cells codes m h code ≡ Empty (wrap m (h + k)) (k + 1)
+    lookup_none e = lookup_at (stops_none codes code (at k) e) ∙ answer_none (at k) (wrap m (h + k)) (k + 1) e
 
-    pub lookup-some : at k ≢ none_mark → get_or codes (at k) 0 ≡ code → lookup cells codes m h code ≡ Found (slot_of (at k)) (wrap m (h + k)) (k + 1)
-    lookup-some n e = lookup-at (stops_code codes code (at k) e) ∙ answer_some (at k) (wrap m (h + k)) (k + 1) n
+    pub lookup_some : at k ≢ none_mark → get_or codes (at k) 0 ≡ code → lookup cells codes m h code ≡ Found (slot_of (at k)) (wrap m (h + k)) (k + 1)
+    lookup_some n e = lookup_at (stops_code codes code (at k) e) ∙ answer_some (at k) (wrap m (h + k)) (k + 1) n
 
 -- ---- the loop of a search: `before` cells are passed, and `cell` is read as number `count`
 
@@ -106,7 +106,7 @@ module _ {cells codes : List ℕ} {m h code cell count : ℕ} (s : Seeking cells
   seek_none {g} q e =
       ap (λ (i : ℕ). Empty i count) s.cell_is
       ∙ ap (λ (n : ℕ). Empty (wrap m (h + k)) n) s.count_is
-      ∙ sym (lookup-none cells codes m h code s.table s.home_in k s.so_far (sym here ∙ e))
+      ∙ sym (lookup_none cells codes m h code s.table s.home_in k s.so_far (sym here ∙ e))
       ∙ ap (λ (x : ℕ). lookup cells codes m x code) q
 
   -- y is the slot that was read
@@ -114,7 +114,7 @@ module _ {cells codes : List ℕ} {m h code cell count : ℕ} (s : Seeking cells
   seek_some {g} {y} q r n e =
       ap (λ (i : ℕ). Found (slot_of (get_or cells i 0)) i count) s.cell_is
       ∙ ap (λ (n : ℕ). Found (slot_of (get_or cells (wrap m (h + k)) 0)) (wrap m (h + k)) n) s.count_is
-      ∙ sym (lookup-some cells codes m h code s.table s.home_in k s.so_far (λ z. n (here ∙ z)) (ap (λ (x : ℕ). get_or codes x 0) (sym here ∙ sym r) ∙ e))
+      ∙ sym (lookup_some cells codes m h code s.table s.home_in k s.so_far (λ z. n (here ∙ z)) (ap (λ (x : ℕ). get_or codes x 0) (sym here ∙ sym r) ∙ e))
       ∙ ap (λ (x : ℕ). lookup cells codes m x code) q
 
   pub seek_on : {i y : ℕ} → i ≡ cell_after m cell → y ≡ get_or cells cell 0 → get_or cells cell 0 ≢ none_mark → get_or codes y 0 ≢ code → Seeking cells codes m h code i (count + 1)

@@ -150,8 +150,8 @@ module _ {home : ℕ → ℕ} {m : ℕ} {codes : List ℕ} {s : ℕ} {cells d : 
         let w = (v.only at v.at_in apart f).1 in
         subst (λ (x : ℕ). x < length codes) w.holds (v.open'.slots w.cell w.cell_in (λ z. f (sym w.holds ∙ z)))
 
-    pub shift-less : {i : ℕ} → i ≡ cell_after m at → far m (gap_of m cells) i < far m (gap_of m cells) at
-    shift-less {i} q =
+    pub shift_less : {i : ℕ} → i ≡ cell_after m at → far m (gap_of m cells) i < far m (gap_of m cells) at
+    shift_less {i} q =
         let g = gap_there v.open' in
         subst (λ (x : ℕ). far m (gap_of m cells) x < far m (gap_of m cells) at) (sym q) (nearer m (gap_of m cells) at g.0 v.at_in (λ q. v.was_full at f (ap (λ (x : ℕ). get_or cells x 0) q ∙ g.1)))
 
@@ -162,13 +162,13 @@ module _ {home : ℕ → ℕ} {m : ℕ} {codes : List ℕ} {s : ℕ} {cells d : 
     cut_at z = f (sym (cut_else d hole in_d at apart) ∙ z)
 
     -- the test that the code makes
-    pub test-is : {g y k : ℕ} → g ≡ cell_after m hole → y ≡ get_or d at 0 → k ≡ home (get_or codes y 0) → between g k at ≡ between (cell_after m hole) r at
-    test-is {g} {y} {k} a b c =
+    pub test_is : {g y k : ℕ} → g ≡ cell_after m hole → y ≡ get_or d at 0 → k ≡ home (get_or codes y 0) → between g k at ≡ between (cell_after m hole) r at
+    test_is {g} {y} {k} a b c =
         ap (λ (x : ℕ). between x k at) a ∙ ap (λ (x : ℕ). between (cell_after m hole) x at) (c ∙ ap (λ (x : ℕ). home (get_or codes x 0)) b)
 
     -- the slot may stay
-    pub shift-stay : between (cell_after m hole) r at ≡ true → {i : ℕ} → i ≡ cell_after m at → Shifting home m codes s cells d hole i
-    shift-stay b {i} q =
+    pub shift_stay : between (cell_after m hole) r at ≡ true → {i : ℕ} → i ≡ cell_after m at → Shifting home m codes s cells d hole i
+    shift_stay b {i} q =
         record {
           open' = v.open';
           long = v.long;
@@ -190,19 +190,19 @@ module _ {home : ℕ → ℕ} {m : ℕ} {codes : List ℕ} {s : ℕ} {cells d : 
     abbrev new : List ℕ
     new = set d hole (get_or d at 0)
 
-    new-hole : get_or new hole 0 ≡ get_or d at 0
-    new-hole = get_or-set_same d hole (get_or d at 0) 0 in_d
+    new_hole : get_or new hole 0 ≡ get_or d at 0
+    new_hole = get_or-set_same d hole (get_or d at 0) 0 in_d
 
-    new-else : (p : ℕ) → p ≢ hole → get_or new p 0 ≡ get_or d p 0
-    new-else p n = get_or-set_other d hole p (get_or d at 0) 0 n
+    new_else : (p : ℕ) → p ≢ hole → get_or new p 0 ≡ get_or d p 0
+    new_else p n = get_or-set_other d hole p (get_or d at 0) 0 n
 
-    new-full : (p : ℕ) → get_or d p 0 ≢ none_mark → get_or new p 0 ≢ none_mark
-    new-full p n =
-        ⊎_elim (λ (q : p ≡ hole). λ z. f (sym new-hole ∙ ap (λ (x : ℕ). get_or new x 0) (sym q) ∙ z)) (λ q. λ z. n (sym (new-else p q) ∙ z)) (eq_or_ne p hole)
+    new_full : (p : ℕ) → get_or d p 0 ≢ none_mark → get_or new p 0 ≢ none_mark
+    new_full p n =
+        ⊎_elim (λ (q : p ≡ hole). λ z. f (sym new_hole ∙ ap (λ (x : ℕ). get_or new x 0) (sym q) ∙ z)) (λ q. λ z. n (sym (new_else p q) ∙ z)) (eq_or_ne p hole)
 
-    old-full : (p : ℕ) → get_or new p 0 ≢ none_mark → get_or d p 0 ≢ none_mark
-    old-full p n =
-        ⊎_elim (λ (q : p ≡ hole). λ z. v.hole_full (ap (λ (x : ℕ). get_or d x 0) (sym q) ∙ z)) (λ q. λ z. n (new-else p q ∙ z)) (eq_or_ne p hole)
+    old_full : (p : ℕ) → get_or new p 0 ≢ none_mark → get_or d p 0 ≢ none_mark
+    old_full p n =
+        ⊎_elim (λ (q : p ≡ hole). λ z. v.hole_full (ap (λ (x : ℕ). get_or d x 0) (sym q) ∙ z)) (λ q. λ z. n (new_else p q ∙ z)) (eq_or_ne p hole)
 
     -- where what stands in a cell now stood before
     record From (p : ℕ) : Type 0 where
@@ -222,7 +222,7 @@ module _ {home : ℕ → ℕ} {m : ℕ} {codes : List ℕ} {s : ℕ} {cells d : 
               from = at;
               from_in = v.at_in;
               from-hole = apart;
-              same = ap (λ (x : ℕ). get_or new x 0) q ∙ new-hole;
+              same = ap (λ (x : ℕ). get_or new x 0) q ∙ new_hole;
               back = λ k t e a h c. ⊎_elim (λ w. q ∙ sym w.0) (λ w. absurd (c (sym w.1 ∙ sym a))) h;
               how = inl (q, refl);
             }
@@ -233,22 +233,22 @@ module _ {home : ℕ → ℕ} {m : ℕ} {codes : List ℕ} {s : ℕ} {cells d : 
               from = p;
               from_in = l;
               from-hole = q;
-              same = new-else p q;
+              same = new_else p q;
               back = λ k t e a h c. ⊎_elim (λ w. absurd (n (a ∙ w.1))) (λ w. a ∙ w.1) h;
               how = inr (q, refl);
             }
 
-    pub shift-move : between (cell_after m hole) r at ≡ false → {i : ℕ} → i ≡ cell_after m at → Shifting home m codes s cells new at i
-    shift-move b {i} q =
+    pub shift_move : between (cell_after m hole) r at ≡ false → {i : ℕ} → i ≡ cell_after m at → Shifting home m codes s cells new at i
+    shift_move b {i} q =
         record {
           open' = v.open';
           long = length-set d hole (get_or d at 0) ∙ v.long;
           tail = drop-set-lt m d hole (get_or d at 0) v.hole_in ∙ v.tail;
           hole_in = v.at_in;
           at_in = subst (λ (x : ℕ). x < m) (sym q) (next_lt m at v.at_in);
-          hole_full = new-full at f;
-          full = λ p n. new-full p (v.full p n);
-          was_full = λ p n. v.was_full p (old-full p n);
+          hole_full = new_full at f;
+          full = λ p n. new_full p (v.full p n);
+          was_full = λ p n. v.was_full p (old_full p n);
           once = once;
           homed = homed;
           settled = done (sym q);
@@ -276,16 +276,16 @@ module _ {home : ℕ → ℕ} {m : ℕ} {codes : List ℕ} {s : ℕ} {cells d : 
         homed p l a n =
             ⊎_elim
             (λ (e : p ≡ hole). subst (λ (x : ℕ). Run new m x (home (get_or codes (get_or new x 0) 0))) (sym e)
-            (subst (λ (x : ℕ). Run new m hole (home (get_or codes x 0))) (sym new-hole) (run_keep new-full moved)))
-            (λ e. subst (λ (x : ℕ). Run new m p (home (get_or codes x 0))) (sym (new-else p e)) (run_keep new-full (v.homed p l e (λ z. n (new-else p e ∙ z)))))
+            (subst (λ (x : ℕ). Run new m hole (home (get_or codes x 0))) (sym new_hole) (run_keep new_full moved)))
+            (λ e. subst (λ (x : ℕ). Run new m p (home (get_or codes x 0))) (sym (new_else p e)) (run_keep new_full (v.homed p l e (λ z. n (new_else p e ∙ z)))))
             (eq_or_ne p hole)
 
         left : (x : ℕ) → x ≢ none_mark → x ≢ s → In m cells x → (w : In m new x) × (w.cell ≢ at)
         left x n e w =
             let y = v.left x n e w in
             ⊎_elim
-            (λ (a : y.0.cell ≡ at). (record { cell = hole; cell_in = v.hole_in; holds = new-hole ∙ ap (λ (k : ℕ). get_or d k 0) (sym a) ∙ y.0.holds }, λ z. apart (sym z)))
-            (λ a. (record { cell = y.0.cell; cell_in = y.0.cell_in; holds = new-else y.0.cell y.1 ∙ y.0.holds }, a))
+            (λ (a : y.0.cell ≡ at). (record { cell = hole; cell_in = v.hole_in; holds = new_hole ∙ ap (λ (k : ℕ). get_or d k 0) (sym a) ∙ y.0.holds }, λ z. apart (sym z)))
+            (λ a. (record { cell = y.0.cell; cell_in = y.0.cell_in; holds = new_else y.0.cell y.1 ∙ y.0.holds }, a))
             (eq_or_ne y.0.cell at)
 
         only : (p : ℕ) → p < m → p ≢ at → get_or new p 0 ≢ none_mark → (get_or new p 0 ≢ s) × In m cells (get_or new p 0)

@@ -3,7 +3,7 @@
 use mathlib.Core.Path.{refl}
 use borrow.Author.Rules.{rules}
 use Rattle.act.proofs.Deciding.{needed, acted_as, stayed}
-use Rattle.act.proofs.Stepping.{raise_room, raise_acted, set_room, set_acted, renew_value, renew_room, renew_acted, drop_occupied, drop-acted, sweep_whole, sweep-acted, clear_spacious, clear-acted}
+use Rattle.act.proofs.Stepping.{raise_room, raise_acted, set_room, set_acted, renew_value, renew_room, renew_acted, drop_occupied, drop_acted, sweep_whole, sweep_acted, clear_spacious, clear_acted}
 use Rattle.act.proofs.act.Statement.{statement}
 use Rattle.act.proofs.act.Tie as tie
 
@@ -134,7 +134,7 @@ same-length-14 : tie.Need-same-length-14
 same-length-14 c = c.before.before.before.before.before.before.before.before.before.before.before.before.before.before.before.before.remove.auto.1.1.1.1.1.1.1.1.0
 
 returns-7 : tie.Need-returns-7
-returns-7 c = acted_as c.before.before.before.before.before.before.before.before.before.before.before.before.before.before.before.before.before.before.before.before.before.before.before.before.before.before.plan4.given.1 (drop-acted c.before.before.before.before.before.before.before.before.before.before.before.before.before.before.before.before.remove.ensures)
+returns-7 c = acted_as c.before.before.before.before.before.before.before.before.before.before.before.before.before.before.before.before.before.before.before.before.before.before.before.before.before.before.plan4.given.1 (drop_acted c.before.before.before.before.before.before.before.before.before.before.before.before.before.before.before.before.remove.ensures)
 
 same-length-15 : tie.Need-same-length-15
 same-length-15 c = c.before.before.before.before.before.before.before.before.before.before.before.before.before.before.before.before.place.auto.1.0
@@ -242,7 +242,7 @@ same-length-46 : tie.Need-same-length-46
 same-length-46 c = c.before.before.before.before.before.before.before.before.before.before.before.before.before.before.before.before.sweep.auto.1.1.1.1.1.1.1.1.0
 
 returns-11 : tie.Need-returns-11
-returns-11 c = acted_as c.before.before.before.before.before.before.before.before.before.before.before.before.before.before.before.before.before.before.before.before.before.before.before.before.before.before.plan8.given.1 (sweep-acted c.before.before.before.before.before.before.before.before.before.before.before.before.before.before.before.before.sweep.ensures)
+returns-11 c = acted_as c.before.before.before.before.before.before.before.before.before.before.before.before.before.before.before.before.before.before.before.before.before.before.before.before.before.before.plan8.given.1 (sweep_acted c.before.before.before.before.before.before.before.before.before.before.before.before.before.before.before.before.sweep.ensures)
 
 same-length-47 : tie.Need-same-length-47
 same-length-47 c = c.before.before.before.before.before.before.before.before.before.before.before.before.before.before.before.before.empty.auto.1.0
@@ -269,7 +269,7 @@ same-length-54 : tie.Need-same-length-54
 same-length-54 c = c.before.before.before.before.before.before.before.before.before.before.before.before.before.before.before.before.empty.auto.1.1.1.1.1.1.1.1.0
 
 returns-12 : tie.Need-returns-12
-returns-12 c = acted_as c.before.before.before.before.before.before.before.before.before.before.before.before.before.before.before.before.before.before.before.before.before.before.before.before.before.enum-told4.given.1 (clear-acted c.before.before.before.before.before.before.before.before.before.before.before.before.before.before.before.before.empty.ensures)
+returns-12 c = acted_as c.before.before.before.before.before.before.before.before.before.before.before.before.before.before.before.before.before.before.before.before.before.before.before.before.before.enum-told4.given.1 (clear_acted c.before.before.before.before.before.before.before.before.before.before.before.before.before.before.before.before.empty.ensures)
 
 pub act_spec : {M : Type 1} → statement M
 act_spec =

@@ -1,7 +1,7 @@
 -- `act::fit` meets its contract.
 -- Assumes nothing.
 use mathlib.Core.Path.{◌∙◌}
-use Rattle.act.proofs.Placing.{fit_rich, fit-holds, fit-acted}
+use Rattle.act.proofs.Placing.{fit_rich, fit_holds, fit_acted}
 use Rattle.act.proofs.fit.Statement.{statement}
 use Rattle.act.proofs.fit.Tie as tie
 
@@ -9,7 +9,7 @@ evict-requires : tie.Need-evict-requires
 evict-requires c κs = fit_rich c.before.before.before.before.before.before.before.before.before.before.before.before.before.before.before.before.requires
 
 resize-requires : tie.Need-resize-requires
-resize-requires c κs = fit-holds c.before.before.before.before.before.before.before.before.before.before.before.before.before.before.before.before.before.before.before.before.before.before.before.before.before.before.before.before.before.before.before.before.before.before.before.before.before.before.before.before.before.requires c.before.before.before.before.before.before.before.before.before.before.before.before.before.before.before.before.before.before.before.before.before.before.before.before.evict.ensures
+resize-requires c κs = fit_holds c.before.before.before.before.before.before.before.before.before.before.before.before.before.before.before.before.before.before.before.before.before.before.before.before.before.before.before.before.before.before.before.before.before.before.before.before.before.before.before.before.before.requires c.before.before.before.before.before.before.before.before.before.before.before.before.before.before.before.before.before.before.before.before.before.before.before.before.evict.ensures
 
 same_length : tie.Need-same-length
 same_length c = c.before.before.before.before.before.before.before.before.before.before.before.before.before.before.before.before.resize.auto.1.0 ∙ c.before.before.before.before.before.before.before.before.before.before.before.before.before.before.before.before.before.before.before.before.before.before.before.before.before.before.before.before.before.before.before.before.before.before.before.before.before.before.before.before.before.evict.auto.1.0
@@ -36,7 +36,7 @@ same-length-8 : tie.Need-same-length-8
 same-length-8 c = c.before.before.before.before.before.before.before.before.before.before.before.before.before.before.before.before.resize.auto.1.1.1.1.1.1.1.1.0 ∙ c.before.before.before.before.before.before.before.before.before.before.before.before.before.before.before.before.before.before.before.before.before.before.before.before.before.before.before.before.before.before.before.before.before.before.before.before.before.before.before.before.before.evict.auto.1.1.1.1.1.1.1.1.0
 
 returns : tie.Need-returns
-returns c = fit-acted c.before.before.before.before.before.before.before.before.before.before.before.before.before.before.before.before.before.before.before.before.before.before.before.before.before.before.before.before.before.before.before.before.before.before.before.before.before.before.before.before.before.before.before.before.before.before.before.before.before.before.before.before.before.before.before.before.before.before.requires c.before.before.before.before.before.before.before.before.before.before.before.before.before.before.before.before.before.before.before.before.before.before.before.before.before.before.before.before.before.before.before.before.before.before.before.before.before.before.before.before.before.evict.ensures c.before.before.before.before.before.before.before.before.before.before.before.before.before.before.before.before.resize.ensures
+returns c = fit_acted c.before.before.before.before.before.before.before.before.before.before.before.before.before.before.before.before.before.before.before.before.before.before.before.before.before.before.before.before.before.before.before.before.before.before.before.before.before.before.before.before.before.before.before.before.before.before.before.before.before.before.before.before.before.before.before.before.before.before.requires c.before.before.before.before.before.before.before.before.before.before.before.before.before.before.before.before.before.before.before.before.before.before.before.before.before.before.before.before.before.before.before.before.before.before.before.before.before.before.before.before.before.evict.ensures c.before.before.before.before.before.before.before.before.before.before.before.before.before.before.before.before.resize.ensures
 
 pub fit_spec : {M : Type 1} → statement M
 fit_spec =

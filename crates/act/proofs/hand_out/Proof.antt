@@ -2,7 +2,7 @@
 -- Assumes nothing.
 use mathlib.Core.Path.{refl}
 use borrow.Author.Rules.{rules}
-use Rattle.act.proofs.Handing.{offered, no_rows, all-handed, back-handed, place-handed, replace-handed, fit-handed, sweep-handed, all_offered, back_offered, place_offered, replace_offered, fit_offered, sweep_offered}
+use Rattle.act.proofs.Handing.{offered, no_rows, all_handed, back_handed, place_handed, replace_handed, fit_handed, sweep_handed, all_offered, back_offered, place_offered, replace_offered, fit_offered, sweep_offered}
 use Rattle.act.proofs.hand_out.Statement.{statement}
 use Rattle.act.proofs.hand_out.Tie as tie
 
@@ -91,7 +91,7 @@ same-length-4 : tie.Need-same-length-4
 same-length-4 c = c.before.before.before.before.before.before.before.before.write-all.auto.1.1.1.1.1.1.1.1.1.0
 
 returns-7 : tie.Need-returns-7
-returns-7 c = all-handed c.before.before.before.before.before.before.before.before.before.before.before.before.before.enum-told7.given.1 c.before.before.before.before.before.before.before.before.write-all.ensures
+returns-7 c = all_handed c.before.before.before.before.before.before.before.before.before.before.before.before.before.enum-told7.given.1 c.before.before.before.before.before.before.before.before.write-all.ensures
 
 same-length-5 : tie.Need-same-length-5
 same-length-5 c = c.before.before.before.before.before.before.before.before.write-all-back.auto.1.1.1.1.1.1.0
@@ -106,7 +106,7 @@ same-length-8 : tie.Need-same-length-8
 same-length-8 c = c.before.before.before.before.before.before.before.before.write-all-back.auto.1.1.1.1.1.1.1.1.1.0
 
 returns-8 : tie.Need-returns-8
-returns-8 c = back-handed c.before.before.before.before.before.before.before.before.before.before.before.before.before.enum-told8.given.1 c.before.before.before.before.before.before.before.before.write-all-back.ensures
+returns-8 c = back_handed c.before.before.before.before.before.before.before.before.before.before.before.before.before.enum-told8.given.1 c.before.before.before.before.before.before.before.before.write-all-back.ensures
 
 same-length-9 : tie.Need-same-length-9
 same-length-9 c = c.before.before.before.before.before.before.before.before.write-oldest.auto.1.1.1.1.1.1.1.1.0
@@ -121,7 +121,7 @@ same-length-12 : tie.Need-same-length-12
 same-length-12 c = c.before.before.before.before.before.before.before.before.write-oldest.auto.1.1.1.1.1.1.1.1.1.1.1.0
 
 returns-9 : tie.Need-returns-9
-returns-9 c = place-handed c.before.before.before.before.before.before.before.before.before.before.before.before.before.before.plan.given.1 c.before.before.before.before.before.before.before.before.write-oldest.ensures
+returns-9 c = place_handed c.before.before.before.before.before.before.before.before.before.before.before.before.before.before.plan.given.1 c.before.before.before.before.before.before.before.before.write-oldest.ensures
 
 same-length-13 : tie.Need-same-length-13
 same-length-13 c = c.before.before.before.before.before.before.before.before.write-oldest2.auto.1.1.1.1.1.1.1.1.0
@@ -136,7 +136,7 @@ same-length-16 : tie.Need-same-length-16
 same-length-16 c = c.before.before.before.before.before.before.before.before.write-oldest2.auto.1.1.1.1.1.1.1.1.1.1.1.0
 
 returns-10 : tie.Need-returns-10
-returns-10 c = replace-handed c.before.before.before.before.before.before.before.before.before.before.before.before.before.before.plan2.given.1 c.before.before.before.before.before.before.before.before.write-oldest2.ensures
+returns-10 c = replace_handed c.before.before.before.before.before.before.before.before.before.before.before.before.before.before.plan2.given.1 c.before.before.before.before.before.before.before.before.write-oldest2.ensures
 
 same-length-17 : tie.Need-same-length-17
 same-length-17 c = c.before.before.before.before.before.before.before.before.write-oldest3.auto.1.1.1.1.1.1.1.1.0
@@ -151,7 +151,7 @@ same-length-20 : tie.Need-same-length-20
 same-length-20 c = c.before.before.before.before.before.before.before.before.write-oldest3.auto.1.1.1.1.1.1.1.1.1.1.1.0
 
 returns-11 : tie.Need-returns-11
-returns-11 c = fit-handed c.before.before.before.before.before.before.before.before.before.before.before.before.before.before.plan3.given.1 c.before.before.before.before.before.before.before.before.write-oldest3.ensures
+returns-11 c = fit_handed c.before.before.before.before.before.before.before.before.before.before.before.before.before.before.plan3.given.1 c.before.before.before.before.before.before.before.before.write-oldest3.ensures
 
 same-length-21 : tie.Need-same-length-21
 same-length-21 c = c.before.before.before.before.before.before.before.before.write-removed.auto.1.1.1.1.1.1.1.0
@@ -166,7 +166,7 @@ same-length-24 : tie.Need-same-length-24
 same-length-24 c = c.before.before.before.before.before.before.before.before.write-removed.auto.1.1.1.1.1.1.1.1.1.1.0
 
 returns-12 : tie.Need-returns-12
-returns-12 c = sweep-handed c.before.before.before.before.before.before.before.before.before.before.before.before.before.before.plan4.given.1 c.before.before.before.before.before.before.before.before.write-removed.ensures
+returns-12 c = sweep_handed c.before.before.before.before.before.before.before.before.before.before.before.before.before.before.plan4.given.1 c.before.before.before.before.before.before.before.before.write-removed.ensures
 
 pub hand_out_spec : {M : Type 1} → statement M
 hand_out_spec =

@@ -1,7 +1,7 @@
 -- `act::place` meets its contract.
 -- Assumes nothing.
 use mathlib.Core.Path.{◌∙◌}
-use Rattle.act.proofs.Placing.{place_rich, place-admits, place-acted}
+use Rattle.act.proofs.Placing.{place_rich, place_admits, place_acted}
 use Rattle.act.proofs.place.Statement.{statement}
 use Rattle.act.proofs.place.Tie as tie
 
@@ -9,7 +9,7 @@ evict-requires : tie.Need-evict-requires
 evict-requires c κs = place_rich c.before.before.before.before.before.before.before.before.before.before.before.before.before.before.before.before.requires
 
 add-requires : tie.Need-add-requires
-add-requires c κs = place-admits c.before.before.before.before.before.before.before.before.before.before.before.before.before.before.before.before.before.before.before.before.before.before.before.before.before.before.before.before.before.before.before.before.before.before.before.before.before.before.before.before.before.requires c.before.before.before.before.before.before.before.before.before.before.before.before.before.before.before.before.before.before.before.before.before.before.before.before.evict.ensures
+add-requires c κs = place_admits c.before.before.before.before.before.before.before.before.before.before.before.before.before.before.before.before.before.before.before.before.before.before.before.before.before.before.before.before.before.before.before.before.before.before.before.before.before.before.before.before.before.requires c.before.before.before.before.before.before.before.before.before.before.before.before.before.before.before.before.before.before.before.before.before.before.before.before.evict.ensures
 
 same_length : tie.Need-same-length
 same_length c = c.before.before.before.before.before.before.before.before.before.before.before.before.before.before.before.before.add.auto.1.0 ∙ c.before.before.before.before.before.before.before.before.before.before.before.before.before.before.before.before.before.before.before.before.before.before.before.before.before.before.before.before.before.before.before.before.before.before.before.before.before.before.before.before.before.evict.auto.1.0
@@ -36,7 +36,7 @@ same-length-8 : tie.Need-same-length-8
 same-length-8 c = c.before.before.before.before.before.before.before.before.before.before.before.before.before.before.before.before.add.auto.1.1.1.1.1.1.1.1.0 ∙ c.before.before.before.before.before.before.before.before.before.before.before.before.before.before.before.before.before.before.before.before.before.before.before.before.before.before.before.before.before.before.before.before.before.before.before.before.before.before.before.before.before.evict.auto.1.1.1.1.1.1.1.1.0
 
 returns : tie.Need-returns
-returns c = place-acted c.before.before.before.before.before.before.before.before.before.before.before.before.before.before.before.before.before.before.before.before.before.before.before.before.before.before.before.before.before.before.before.before.before.before.before.before.before.before.before.before.before.before.before.before.before.before.before.before.before.before.before.before.before.before.before.before.before.before.requires c.before.before.before.before.before.before.before.before.before.before.before.before.before.before.before.before.before.before.before.before.before.before.before.before.before.before.before.before.before.before.before.before.before.before.before.before.before.before.before.before.before.evict.ensures c.before.before.before.before.before.before.before.before.before.before.before.before.before.before.before.before.add.ensures
+returns c = place_acted c.before.before.before.before.before.before.before.before.before.before.before.before.before.before.before.before.before.before.before.before.before.before.before.before.before.before.before.before.before.before.before.before.before.before.before.before.before.before.before.before.before.before.before.before.before.before.before.before.before.before.before.before.before.before.before.before.before.before.requires c.before.before.before.before.before.before.before.before.before.before.before.before.before.before.before.before.before.before.before.before.before.before.before.before.before.before.before.before.before.before.before.before.before.before.before.before.before.before.before.before.before.evict.ensures c.before.before.before.before.before.before.before.before.before.before.before.before.before.before.before.before.add.ensures
 
 pub place_spec : {M : Type 1} → statement M
 place_spec =

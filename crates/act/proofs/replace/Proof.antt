@@ -1,7 +1,7 @@
 -- `act::replace` meets its contract.
 -- Assumes nothing.
 use mathlib.Core.Path.{◌∙◌}
-use Rattle.act.proofs.Placing.{replace_occupied, replace-prepared, replace-acted}
+use Rattle.act.proofs.Placing.{replace_occupied, replace_prepared, replace_acted}
 use Rattle.act.proofs.replace.Statement.{statement}
 use Rattle.act.proofs.replace.Tie as tie
 
@@ -9,7 +9,7 @@ remove-requires : tie.Need-remove-requires
 remove-requires c κs = replace_occupied c.before.before.before.before.before.before.before.before.before.before.before.before.before.before.before.before.requires
 
 place-requires : tie.Need-place-requires
-place-requires c κs = replace-prepared c.before.before.before.before.before.before.before.before.before.before.before.before.before.before.before.before.before.before.before.before.before.before.before.before.before.before.before.before.before.before.before.before.before.before.before.before.before.before.before.before.before.requires c.before.before.before.before.before.before.before.before.before.before.before.before.before.before.before.before.before.before.before.before.before.before.before.before.remove.ensures
+place-requires c κs = replace_prepared c.before.before.before.before.before.before.before.before.before.before.before.before.before.before.before.before.before.before.before.before.before.before.before.before.before.before.before.before.before.before.before.before.before.before.before.before.before.before.before.before.before.requires c.before.before.before.before.before.before.before.before.before.before.before.before.before.before.before.before.before.before.before.before.before.before.before.before.remove.ensures
 
 same_length : tie.Need-same-length
 same_length c = c.before.before.before.before.before.before.before.before.before.before.before.before.before.before.before.before.place.auto.1.0 ∙ c.before.before.before.before.before.before.before.before.before.before.before.before.before.before.before.before.before.before.before.before.before.before.before.before.before.before.before.before.before.before.before.before.before.before.before.before.before.before.before.before.before.remove.auto.1.0
@@ -36,7 +36,7 @@ same-length-8 : tie.Need-same-length-8
 same-length-8 c = c.before.before.before.before.before.before.before.before.before.before.before.before.before.before.before.before.place.auto.1.1.1.1.1.1.1.1.0 ∙ c.before.before.before.before.before.before.before.before.before.before.before.before.before.before.before.before.before.before.before.before.before.before.before.before.before.before.before.before.before.before.before.before.before.before.before.before.before.before.before.before.before.remove.auto.1.1.1.1.1.1.1.1.0
 
 returns : tie.Need-returns
-returns c = replace-acted c.before.before.before.before.before.before.before.before.before.before.before.before.before.before.before.before.before.before.before.before.before.before.before.before.before.before.before.before.before.before.before.before.before.before.before.before.before.before.before.before.before.before.before.before.before.before.before.before.before.before.before.before.before.before.before.before.before.before.requires c.before.before.before.before.before.before.before.before.before.before.before.before.before.before.before.before.before.before.before.before.before.before.before.before.before.before.before.before.before.before.before.before.before.before.before.before.before.before.before.before.before.remove.ensures c.before.before.before.before.before.before.before.before.before.before.before.before.before.before.before.before.place.ensures
+returns c = replace_acted c.before.before.before.before.before.before.before.before.before.before.before.before.before.before.before.before.before.before.before.before.before.before.before.before.before.before.before.before.before.before.before.before.before.before.before.before.before.before.before.before.before.before.before.before.before.before.before.before.before.before.before.before.before.before.before.before.before.before.requires c.before.before.before.before.before.before.before.before.before.before.before.before.before.before.before.before.before.before.before.before.before.before.before.before.before.before.before.before.before.before.before.before.before.before.before.before.before.before.before.before.before.remove.ensures c.before.before.before.before.before.before.before.before.before.before.before.before.before.before.before.before.place.ensures
 
 pub replace_spec : {M : Type 1} → statement M
 replace_spec =

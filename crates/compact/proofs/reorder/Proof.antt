@@ -1,7 +1,7 @@
 -- `compact::reorder` meets its contract.
 -- Assumes nothing.
 use mathlib.Core.Path.{◌∙◌}
-use Rattle.compact.proofs.Compacting.{compactable_walk, reorder-exchangeable, reorder-writable, reordered}
+use Rattle.compact.proofs.Compacting.{compactable_walk, reorder_exchangeable, reorder_writable, reordered}
 use Rattle.compact.proofs.reorder.Statement.{statement}
 use Rattle.compact.proofs.reorder.Tie as tie
 
@@ -14,13 +14,13 @@ exchange-fields-requires : tie.Need-exchange-fields-requires
 exchange-fields-requires c κs =
     let at-arrange = c.before.before.before.before.before.before.before.before.before in
     let at-start = at-arrange.before.before.before.before.before.before.before.before.before.before.before in
-    reorder-exchangeable _ _ _ _ _ _ at-start.requires _ _ at-arrange.arrange.ensures
+    reorder_exchangeable _ _ _ _ _ _ at-start.requires _ _ at-arrange.arrange.ensures
 
 write-links-requires : tie.Need-write-links-requires
 write-links-requires c κs =
     let at-arrange = c.before.before.before.before.before.before.before.before.before.before.before.before.before.before.before.before.before.before.before.before.before in
     let at-start = at-arrange.before.before.before.before.before.before.before.before.before.before.before in
-    reorder-writable _ _ _ _ _ _ at-start.requires _ _ at-arrange.arrange.ensures
+    reorder_writable _ _ _ _ _ _ at-start.requires _ _ at-arrange.arrange.ensures
 
 head-of-requires : tie.Need-head-of-requires
 head-of-requires c κs =

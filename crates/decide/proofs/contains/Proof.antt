@@ -1,6 +1,6 @@
 -- `decide::contains` meets its contract.
 -- Assumes nothing.
-use Rattle.decide.proofs.Finding.{contains_none, contains-some}
+use Rattle.decide.proofs.Finding.{contains_none, contains_some}
 use Rattle.std.proofs.Common.{rules}
 use Rattle.decide.proofs.contains.Statement.{statement}
 use Rattle.decide.proofs.contains.Tie as tie
@@ -21,7 +21,7 @@ say-requires-2 : tie.Need-say-requires-2
 say-requires-2 c κs = search rules
 
 returns-2 : tie.Need-returns-2
-returns-2 c = λ h values code lent. contains-some lent c.before.enum_told.given.1 c.say2.ensures
+returns-2 c = λ h values code lent. contains_some lent c.before.enum_told.given.1 c.say2.ensures
 
 pub contains_spec : {M : Type 1} → statement M
 contains_spec =

@@ -1,7 +1,7 @@
 -- `decide::get` meets its contract.
 -- Assumes nothing.
 use Rattle.decide.proofs.Pointing.{found_reached}
-use Rattle.decide.proofs.Finding.{says, if_absent, get-found}
+use Rattle.decide.proofs.Finding.{says, if_absent, get_found}
 use Rattle.std.proofs.Common.{rules}
 use Rattle.decide.proofs.get.Statement.{statement}
 use Rattle.decide.proofs.get.Tie as tie
@@ -28,7 +28,7 @@ shared-slice-read-value : tie.Need-shared-slice-read-value
 shared-slice-read-value c = found_reached _ c.before.before.before.before.before.before.requires c.before.before.before.search.given.1
 
 returns-2 : tie.Need-returns-2
-returns-2 c = λ h code lent. get-found lent c.before.before.before.search.given.1
+returns-2 c = λ h code lent. get_found lent c.before.before.before.search.given.1
 
 pub get_spec : {M : Type 1} → statement M
 get_spec =

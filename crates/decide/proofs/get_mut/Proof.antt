@@ -1,7 +1,7 @@
 -- `decide::get_mut` meets its contract.
 -- Assumes nothing.
 use Rattle.decide.proofs.Pointing.{found_reached}
-use Rattle.decide.proofs.Finding.{says, on_plain_lem, not_plain, if_absent, renew-found}
+use Rattle.decide.proofs.Finding.{says, on_plain_lem, not_plain, if_absent, renew_found}
 use Rattle.std.proofs.Common.{rules}
 use Rattle.decide.proofs.get_mut.Statement.{statement}
 use Rattle.decide.proofs.get_mut.Tie as tie
@@ -34,7 +34,7 @@ shared-slice-read-old : tie.Need-shared-slice-read-old
 shared-slice-read-old c = found_reached _ c.before.before.before.before.before.before.before.before.requires c.before.before.before.search.given.1
 
 returns-3 : tie.Need-returns-3
-returns-3 c = λ code lent. on_plain_lem lent _ c.before.before.before.before.before.if1.false (renew-found lent c.before.before.before.search.given.1 _ c.before.before.before.before.before.before.before.before.args.value)
+returns-3 c = λ code lent. on_plain_lem lent _ c.before.before.before.before.before.if1.false (renew_found lent c.before.before.before.search.given.1 _ c.before.before.before.before.before.before.before.before.args.value)
 
 pub get_mut_spec : {M : Type 1} → statement M
 get_mut_spec =

@@ -1,7 +1,7 @@
 -- `decide::pop` meets its contract.
 -- Assumes nothing.
 use Rattle.decide.proofs.Pointing.{found_reached}
-use Rattle.decide.proofs.Finding.{says, if_absent, pop-found}
+use Rattle.decide.proofs.Finding.{says, if_absent, pop_found}
 use Rattle.std.proofs.Common.{rules}
 use Rattle.decide.proofs.pop.Statement.{statement}
 use Rattle.decide.proofs.pop.Tie as tie
@@ -28,7 +28,7 @@ shared-slice-read-value : tie.Need-shared-slice-read-value
 shared-slice-read-value c = found_reached _ c.before.before.before.before.before.before.requires c.before.before.before.search.given.1
 
 returns-2 : tie.Need-returns-2
-returns-2 c = λ h code lent. pop-found lent c.before.before.before.search.given.1
+returns-2 c = λ h code lent. pop_found lent c.before.before.before.search.given.1
 
 pub pop_spec : {M : Type 1} → statement M
 pop_spec =

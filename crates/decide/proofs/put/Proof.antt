@@ -1,8 +1,8 @@
 -- `decide::put` meets its contract.
 -- Assumes nothing.
 use Rattle.decide.proofs.Pointing.{found_reached}
-use Rattle.decide.proofs.Finding.{on_plain_lem, not_plain, renew-found}
-use Rattle.decide.proofs.Putting.{put-none}
+use Rattle.decide.proofs.Finding.{on_plain_lem, not_plain, renew_found}
+use Rattle.decide.proofs.Putting.{put_none}
 use Rattle.std.proofs.Common.{rules}
 use Rattle.decide.proofs.put.Statement.{statement}
 use Rattle.decide.proofs.put.Tie as tie
@@ -28,7 +28,7 @@ admit-requires c κs = search rules
 returns-2 : tie.Need-returns-2
 returns-2 c =
     let a = c.before.before.before.before.before.before.before.args in
-    put-none a.room c.before.before.before.before.if1.false c.before.before.enum_told.given.1 a.stamp a.value c.before.pushing.ensures c.admit.ensures
+    put_none a.room c.before.before.before.before.if1.false c.before.before.enum_told.given.1 a.stamp a.value c.before.pushing.ensures c.admit.ensures
 
 cast-i : tie.Need-overflow-cast-i
 cast-i c = search rules
@@ -42,7 +42,7 @@ shared-slice-read-old c = found_reached _ c.before.before.before.before.before.b
 returns-3 : tie.Need-returns-3
 returns-3 c =
     let a = c.before.before.before.before.before.before.before.before.args in
-    on_plain_lem a.room _ c.before.before.before.before.before.if1.false (renew-found a.room c.before.before.before.search.given.1 _ a.value)
+    on_plain_lem a.room _ c.before.before.before.before.before.if1.false (renew_found a.room c.before.before.before.search.given.1 _ a.value)
 
 pub put_spec : {M : Type 1} → statement M
 put_spec =

@@ -2,7 +2,7 @@
 -- Assumes nothing.
 use Rattle.decide.proofs.Pointing.{found_reached}
 use Rattle.decide.proofs.Finding.{not_plain}
-use Rattle.decide.proofs.Putting.{modify-none, modify-found}
+use Rattle.decide.proofs.Putting.{modify_none, modify_found}
 use Rattle.std.proofs.Common.{rules}
 use Rattle.decide.proofs.put_or_modify.Statement.{statement}
 use Rattle.decide.proofs.put_or_modify.Tie as tie
@@ -25,7 +25,7 @@ enter-requires c κs = search rules
 returns-2 : tie.Need-returns-2
 returns-2 c =
     let a = c.before.before.before.before.before.before.args in
-    modify-none a.room c.before.before.before.if1.false c.before.enum_told.given.1 a.stamp a.amount c.enter.ensures
+    modify_none a.room c.before.before.before.if1.false c.before.enum_told.given.1 a.stamp a.amount c.enter.ensures
 
 cast-i : tie.Need-overflow-cast-i
 cast-i c = search rules
@@ -42,7 +42,7 @@ modify-requires c κs = search rules
 returns-3 : tie.Need-returns-3
 returns-3 c =
     let a = c.before.before.before.before.before.before.before.before.before.args in
-    modify-found a.room c.before.before.before.before.before.before.if1.false c.before.before.before.before.search.given.1 a.stamp a.amount c.modify.ensures
+    modify_found a.room c.before.before.before.before.before.before.if1.false c.before.before.before.before.search.given.1 a.stamp a.amount c.modify.ensures
 
 pub put_or_modify_spec : {M : Type 1} → statement M
 put_or_modify_spec =

@@ -1,7 +1,7 @@
 -- `decide::put_with_weight` meets its contract.
 -- Assumes nothing.
 use Rattle.decide.proofs.Pointing.{reaches, found_reached}
-use Rattle.decide.proofs.Weighing.{loaded_budgeted, loaded_but, wrong-kind, too-heavy, weighed-none, weighed-found}
+use Rattle.decide.proofs.Weighing.{loaded_budgeted, loaded_but, wrong_kind_lem, too_heavy_lem, weighed_none, weighed_found}
 use Rattle.std.proofs.Common.{rules}
 use Rattle.decide.proofs.put_with_weight.Statement.{statement}
 use Rattle.decide.proofs.put_with_weight.Tie as tie
@@ -15,7 +15,7 @@ refuse-requires c κs = search rules
 returns : tie.Need-returns
 returns c =
     let a = c.before.before.before.before.before.before.args in
-    wrong-kind a.row a.room c.before.before.wrong_weight_lem.ensures c.before.if1.true c.refuse.ensures
+    wrong_kind_lem a.row a.room c.before.before.wrong_weight_lem.ensures c.before.if1.true c.refuse.ensures
 
 refuse-requires-2 : tie.Need-refuse-requires-2
 refuse-requires-2 c κs = search rules
@@ -23,7 +23,7 @@ refuse-requires-2 c κs = search rules
 returns-2 : tie.Need-returns-2
 returns-2 c =
     let a = c.before.before.before.before.before.before.before.before.before.args in
-    too-heavy a.row a.room c.before.before.before.before.before.wrong_weight_lem.ensures c.before.before.before.before.if1.false c.before.if2.true c.refuse2.ensures
+    too_heavy_lem a.row a.room c.before.before.before.before.before.wrong_weight_lem.ensures c.before.before.before.before.if1.false c.before.if2.true c.refuse2.ensures
 
 sub-budget : tie.Need-overflow-sub-budget
 sub-budget c = search rules
@@ -46,7 +46,7 @@ admit-requires c κs = search rules
 returns-3 : tie.Need-returns-3
 returns-3 c =
     let a = c.before.before.before.before.before.before.before.before.before.before.before.before.before.before.args in
-    weighed-none a.row a.room c.before.before.before.before.before.before.before.before.before.before.wrong_weight_lem.ensures c.before.before.before.before.before.before.before.before.before.if1.false c.before.before.before.before.before.before.if2.false c.before.before.enum_told.given.1 c.before.leaving.ensures c.admit.ensures
+    weighed_none a.row a.room c.before.before.before.before.before.before.before.before.before.before.wrong_weight_lem.ensures c.before.before.before.before.before.before.before.before.before.if1.false c.before.before.before.before.before.before.if2.false c.before.before.enum_told.given.1 c.before.leaving.ensures c.admit.ensures
 
 leaving-requires-2 : tie.Need-leaving-requires-2
 leaving-requires-2 c κs = loaded_but c.before.before.before.before.before.before.before.before.before.before.before.before.before.args.row c.before.search.given.1 c.before.before.before.before.before.before.before.before.before.before.before.before.before.requires
@@ -66,7 +66,7 @@ within-requires c κs = search rules
 returns-4 : tie.Need-returns-4
 returns-4 c =
     let a = c.before.before.before.before.before.before.before.before.before.before.before.before.before.before.before.before.before.args in
-    weighed-found a.row a.room c.before.before.before.before.before.before.before.before.before.before.before.before.before.wrong_weight_lem.ensures c.before.before.before.before.before.before.before.before.before.before.before.before.if1.false c.before.before.before.before.before.before.before.before.before.if2.false c.before.before.before.before.before.search.given.1 c.before.before.before.leaving2.ensures c.within.ensures
+    weighed_found a.row a.room c.before.before.before.before.before.before.before.before.before.before.before.before.before.wrong_weight_lem.ensures c.before.before.before.before.before.before.before.before.before.before.before.before.if1.false c.before.before.before.before.before.before.before.before.before.if2.false c.before.before.before.before.before.search.given.1 c.before.before.before.leaving2.ensures c.within.ensures
 
 pub put_with_weight_spec : {M : Type 1} → statement M
 put_with_weight_spec =

@@ -2,7 +2,7 @@
 -- Assumes nothing.
 use Rattle.decide.proofs.Pointing.{found_reached}
 use Rattle.decide.proofs.Finding.{not_plain}
-use Rattle.decide.proofs.Putting.{try-none-over, try-none, try-found-over, try-found}
+use Rattle.decide.proofs.Putting.{try_none_over, try_none, try_found_over, try_found}
 use Rattle.std.proofs.Common.{rules}
 use Rattle.decide.proofs.try_put_or_modify.Statement.{statement}
 use Rattle.decide.proofs.try_put_or_modify.Tie as tie
@@ -25,7 +25,7 @@ refuse-requires-2 c κs = search rules
 returns-2 : tie.Need-returns-2
 returns-2 c =
     let a = c.before.before.before.before.before.before.before.args in
-    try-none-over a.room c.before.before.before.before.if1.false c.before.before.enum_told.given.1 a.stamp a.amount a.ceiling c.before.if2.true c.refuse2.ensures
+    try_none_over a.room c.before.before.before.before.if1.false c.before.before.enum_told.given.1 a.stamp a.amount a.ceiling c.before.if2.true c.refuse2.ensures
 
 enter-requires : tie.Need-enter-requires
 enter-requires c κs = search rules
@@ -33,7 +33,7 @@ enter-requires c κs = search rules
 returns-3 : tie.Need-returns-3
 returns-3 c =
     let a = c.before.before.before.before.before.before.before.args in
-    try-none a.room c.before.before.before.before.if1.false c.before.before.enum_told.given.1 a.stamp a.amount a.ceiling c.before.if2.false c.enter.ensures
+    try_none a.room c.before.before.before.before.if1.false c.before.before.enum_told.given.1 a.stamp a.amount a.ceiling c.before.if2.false c.enter.ensures
 
 cast-i : tie.Need-overflow-cast-i
 cast-i c = search rules
@@ -50,7 +50,7 @@ over-requires c κs = search rules
 returns-4 : tie.Need-returns-4
 returns-4 c =
     let a = c.before.before.before.before.before.before.before.before.before.before.args in
-    try-found-over a.room c.before.before.before.before.before.before.before.if1.false c.before.before.before.before.before.search.given.1 a.stamp a.amount a.ceiling c.before.over.ensures c.if3.true
+    try_found_over a.room c.before.before.before.before.before.before.before.if1.false c.before.before.before.before.before.search.given.1 a.stamp a.amount a.ceiling c.before.over.ensures c.if3.true
 
 modify-requires : tie.Need-modify-requires
 modify-requires c κs = search rules
@@ -58,7 +58,7 @@ modify-requires c κs = search rules
 returns-5 : tie.Need-returns-5
 returns-5 c =
     let a = c.before.before.before.before.before.before.before.before.before.before.before.args in
-    try-found a.room c.before.before.before.before.before.before.before.before.if1.false c.before.before.before.before.before.before.search.given.1 a.stamp a.amount a.ceiling c.before.before.over.ensures c.before.if3.false c.modify.ensures
+    try_found a.room c.before.before.before.before.before.before.before.before.if1.false c.before.before.before.before.before.before.search.given.1 a.stamp a.amount a.ceiling c.before.before.over.ensures c.before.if3.false c.modify.ensures
 
 pub try_put_or_modify_spec : {M : Type 1} → statement M
 try_put_or_modify_spec =

@@ -2,7 +2,7 @@
 -- Assumes nothing.
 use Prim.Native.Nat.{◌-◌, ◌*◌}
 use native.Mathlib.Omega.{arith}
-use Rattle.inspect.proofs.Counts.{Tallying, one_full, one_below, tally_start, tally_more, tally-stray, tally-all}
+use Rattle.inspect.proofs.Counts.{Tallying, one_full, one_below, tally_start, tally_more, tally_stray, tally_all}
 use Rattle.inspect.proofs.cells_full.Statement.{statement}
 use Rattle.inspect.proofs.cells_full.Tie as tie
 
@@ -48,10 +48,10 @@ loop-again c =
     tally_more (omega arith) l.before.loop.invariant (omega arith) l.loop-test.true c.before.full-one.ensures c.below_one.ensures
 
 returns : tie.Need-returns invariant-loop decreases-loop
-returns c = tally-stray (omega arith) c.before.before.loop.invariant _ c.before.loop-test.false c.if1.true
+returns c = tally_stray (omega arith) c.before.before.loop.invariant _ c.before.loop-test.false c.if1.true
 
 returns-2 : tie.Need-returns-2 invariant-loop decreases-loop
-returns-2 c = tally-all (omega arith) c.before.before.loop.invariant _ c.before.loop-test.false c.if1.false
+returns-2 c = tally_all (omega arith) c.before.before.loop.invariant _ c.before.loop-test.false c.if1.false
 
 pub cells_full_spec : {M : Type 1} → statement M
 cells_full_spec =

@@ -60,7 +60,7 @@ head-ok-requires : tie.Need-head-ok-requires
 head-ok-requires c κs = search rules
 
 returns : tie.Need-returns
-returns c = decided.no-head _ _ _ _ _ _ c.before.head_ok.ensures c.if1.true
+returns c = decided.no_head _ _ _ _ _ _ c.before.head_ok.ensures c.if1.true
 
 long-enough-requires : tie.Need-long-enough-requires
 long-enough-requires c κs = search rules
@@ -72,7 +72,7 @@ links-ok-requires : tie.Need-links-ok-requires
 links-ok-requires c κs = search rules
 
 returns-3 : tie.Need-returns-3
-returns-3 c = decided.no-links _ _ _ _ _ _ c.before.links-ok.ensures c.if3.true
+returns-3 c = decided.no_links _ _ _ _ _ _ c.before.links-ok.ensures c.if3.true
 
 cells-full-requires : tie.Need-cells-full-requires
 cells-full-requires c κs = (ready c).full
@@ -84,19 +84,19 @@ table-ok-requires : tie.Need-table-ok-requires
 table-ok-requires c κs = (decided.searchable _ _ _ _ _ _ (framed (third-4 c)) (full c), (ready (third-4 c)).used)
 
 returns-5 : tie.Need-returns-5
-returns-5 c = decided.no-used _ _ _ _ _ _ c.before.table-ok.ensures c.if5.true
+returns-5 c = decided.no_used _ _ _ _ _ _ c.before.table-ok.ensures c.if5.true
 
 weights-ok-requires : tie.Need-weights-ok-requires
 weights-ok-requires c κs = (ready (third-5 c)).weighed
 
 returns-6 : tie.Need-returns-6
-returns-6 c = decided.no-weights _ _ _ _ _ _ c.before.weights-ok.ensures c.if6.true
+returns-6 c = decided.no_weights _ _ _ _ _ _ c.before.weights-ok.ensures c.if6.true
 
 stack-blank-requires : tie.Need-stack-blank-requires
 stack-blank-requires c κs = (ready (third-6 c)).piled
 
 returns-7 : tie.Need-returns-7
-returns-7 c = decided.no-stacked _ _ _ _ _ _ c.before.stack-blank.ensures c.if7.true
+returns-7 c = decided.no_stacked _ _ _ _ _ _ c.before.stack-blank.ensures c.if7.true
 
 rest-blank-requires : tie.Need-rest-blank-requires
 rest-blank-requires c κs = (ready (third-7 c)).rest
@@ -104,7 +104,7 @@ rest-blank-requires c κs = (ready (third-7 c)).rest
 returns-8 : tie.Need-returns-8
 returns-8 c =
     let g = c.before in
-    decided.by-rest _ _ _ _ _ _ (framed (third-7 g)) (full g.before.before.before.before.before.before) (stand g.before.before.before.before) (fit g.before.before) (stacked g) c.rest-blank.ensures
+    decided.by_rest _ _ _ _ _ _ (framed (third-7 g)) (full g.before.before.before.before.before.before) (stand g.before.before.before.before) (fit g.before.before) (stacked g) c.rest-blank.ensures
 
 pub inspect_spec : {M : Type 1} → statement M
 inspect_spec =

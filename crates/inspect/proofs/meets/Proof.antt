@@ -4,7 +4,7 @@ use Prim.Native.Nat.{◌≤◌}
 use native.Mathlib.Omega.{arith}
 use lib.ListN.{get_or}
 use Rattle.list.specs.Inspect.{walk_ok}
-use Rattle.inspect.proofs.Ends.{Meeting, apart, far-a, far-b, loose-a, loose-b, nearer, meet_one, meet-apart, meet-two}
+use Rattle.inspect.proofs.Ends.{Meeting, apart, far_a, far_b, loose_a, loose_b, nearer, meet_one, meet_apart, meet_two}
 use Rattle.inspect.proofs.meets.Statement.{statement}
 use Rattle.inspect.proofs.meets.Tie as tie
 
@@ -37,10 +37,10 @@ shared-slice-read-p : tie.Need-shared-slice-read-p invariant-loop decreases-loop
 shared-slice-read-p c = omega arith
 
 returns : tie.Need-returns invariant-loop decreases-loop
-returns c = far-a _ _ _ _ c.before.before.before.before.loop.invariant.1 c.before.before.before.loop-test.true c.if1.true
+returns c = far_a _ _ _ _ c.before.before.before.before.loop.invariant.1 c.before.before.before.loop-test.true c.if1.true
 
 returns-2 : tie.Need-returns-2 invariant-loop decreases-loop
-returns-2 c = far-b _ _ _ _ c.before.before.before.before.before.loop.invariant.1 c.before.before.before.before.loop-test.true c.if2.true
+returns-2 c = far_b _ _ _ _ c.before.before.before.before.before.loop.invariant.1 c.before.before.before.before.loop-test.true c.if2.true
 
 cast-if3 : tie.Need-overflow-cast-if3 invariant-loop decreases-loop
 cast-if3 c = omega arith
@@ -52,7 +52,7 @@ shared-slice-read-if3 : tie.Need-shared-slice-read-if3 invariant-loop decreases-
 shared-slice-read-if3 c = omega arith
 
 returns-3 : tie.Need-returns-3 invariant-loop decreases-loop
-returns-3 c = loose-a _ _ _ _ c.before.before.before.before.before.before.before.loop.invariant.1 c.before.before.before.before.before.before.loop-test.true c.before.before.before.if1.false c.if3.true
+returns-3 c = loose_a _ _ _ _ c.before.before.before.before.before.before.before.loop.invariant.1 c.before.before.before.before.before.before.loop-test.true c.before.before.before.if1.false c.if3.true
 
 cast-if4 : tie.Need-overflow-cast-if4 invariant-loop decreases-loop
 cast-if4 c = omega arith
@@ -64,7 +64,7 @@ shared-slice-read-if4 : tie.Need-shared-slice-read-if4 invariant-loop decreases-
 shared-slice-read-if4 c = omega arith
 
 returns-4 : tie.Need-returns-4 invariant-loop decreases-loop
-returns-4 c = loose-b _ _ _ _ c.before.before.before.before.before.before.before.before.before.loop.invariant.1 c.before.before.before.before.before.before.before.before.loop-test.true c.if4.true
+returns-4 c = loose_b _ _ _ _ c.before.before.before.before.before.before.before.before.before.loop.invariant.1 c.before.before.before.before.before.before.before.before.loop-test.true c.if4.true
 
 sub-left : tie.Need-overflow-sub-left invariant-loop decreases-loop
 sub-left c = omega arith
@@ -90,7 +90,7 @@ shared-slice-read-if6 : tie.Need-shared-slice-read-if6 invariant-loop decreases-
 shared-slice-read-if6 c = omega arith
 
 returns-6 : tie.Need-returns-6 invariant-loop decreases-loop
-returns-6 c = meet-apart _ _ _ _ c.before.before.before.before.loop.invariant.1 (omega (arith, c.before.before.if5.false, c.before.before.before.loop-test.false)) c.if6.true
+returns-6 c = meet_apart _ _ _ _ c.before.before.before.before.loop.invariant.1 (omega (arith, c.before.before.if5.false, c.before.before.before.loop-test.false)) c.if6.true
 
 cast-result : tie.Need-overflow-cast-result invariant-loop decreases-loop
 cast-result c = omega arith
@@ -102,7 +102,7 @@ shared-slice-read-result : tie.Need-shared-slice-read-result invariant-loop decr
 shared-slice-read-result c = omega arith
 
 returns-7 : tie.Need-returns-7 invariant-loop decreases-loop
-returns-7 c = meet-two _ _ _ _ c.before.before.before.before.before.loop.invariant.1 (omega (arith, c.before.before.before.if5.false, c.before.before.before.before.loop-test.false)) c.before.if6.false
+returns-7 c = meet_two _ _ _ _ c.before.before.before.before.before.loop.invariant.1 (omega (arith, c.before.before.before.if5.false, c.before.before.before.before.loop-test.false)) c.before.if6.false
 
 pub meets_spec : {M : Type 1} → statement M
 meets_spec =

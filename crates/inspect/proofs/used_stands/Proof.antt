@@ -3,7 +3,7 @@
 use mathlib.Core.Path.{◌∙◌, sym}
 use native.Mathlib.Omega.{arith}
 use borrow.Author.Rules.{rules}
-use Rattle.inspect.proofs.Used.{used-none, used-some, home_below, home_stands}
+use Rattle.inspect.proofs.Used.{used_none, used_some, home_below, home_stands}
 use Rattle.inspect.proofs.used_stands.Statement.{statement}
 use Rattle.inspect.proofs.used_stands.Tie as tie
 
@@ -14,7 +14,7 @@ shared-slice-read-if1 : tie.Need-shared-slice-read-if1
 shared-slice-read-if1 c = search rules
 
 returns : tie.Need-returns
-returns c = used-none _ _ _ _ _ _ c.if1.true
+returns c = used_none _ _ _ _ _ _ c.if1.true
 
 mul-t8 : tie.Need-overflow-mul-t8
 mul-t8 c = search rules
@@ -41,13 +41,13 @@ returns-2 : tie.Need-returns-2
 returns-2 c =
     let s = c.before.before.before.before.before.before.before.before.before in
     sym (home_stands _ _ _ s.requires.0 (omega (arith, s.requires.0.gap_in)) s.requires.1.2 c.before.before.home.ensures c.if2.true)
-    ∙ used-some _ _ _ _ _ _ c.before.before.before.before.if1.false
+    ∙ used_some _ _ _ _ _ _ c.before.before.before.before.if1.false
 
 stands-requires : tie.Need-stands-requires
 stands-requires c κs = search rules
 
 returns-3 : tie.Need-returns-3
-returns-3 c = c.stands.ensures ∙ used-some _ _ _ _ _ _ c.before.before.before.before.before.if1.false
+returns-3 c = c.stands.ensures ∙ used_some _ _ _ _ _ _ c.before.before.before.before.before.if1.false
 
 pub used_stands_spec : {M : Type 1} → statement M
 used_stands_spec =

@@ -2,7 +2,7 @@
 -- Assumes nothing.
 use Prim.Native.Nat.{◌-◌}
 use native.Mathlib.Omega.{arith}
-use Rattle.list.proofs.Evicting.{Evicting, evicting_first, evicting_held, evicting-more, evicting_last}
+use Rattle.list.proofs.Evicting.{Evicting, evicting_first, evicting_held, evicting_more, evicting_last}
 use Rattle.list.proofs.evict.Goals as goal
 
 pub loop-gone-init : goal.loop-gone-init
@@ -18,7 +18,7 @@ pub loop-gone-smaller : goal.loop-gone-smaller
 loop-gone-smaller c = omega (arith, c.loop-gone-test.true)
 
 pub loop-gone-preserved : goal.loop-gone-preserved
-loop-gone-preserved c = evicting-more c.loop-gone.invariant c.loop-gone-test.true c.remove-h.ensures
+loop-gone-preserved c = evicting_more c.loop-gone.invariant c.loop-gone-test.true c.remove-h.ensures
 
 pub returns : goal.returns
 returns c = evicting_last c.loop-gone.invariant c.loop-gone-test.false

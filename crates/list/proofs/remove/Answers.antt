@@ -1,14 +1,14 @@
 -- `list::remove` meets its contract.
 -- Assumes nothing.
 use borrow.Author.Rules.{rules}
-use Rattle.list.proofs.Calls.{held_room, held-stackable, removed}
+use Rattle.list.proofs.Calls.{held_room, held_stackable, removed}
 use Rattle.list.proofs.remove.Goals as goal
 
 pub unlink-loose-requires : goal.unlink-loose-requires
 unlink-loose-requires c = held_room _ _ _ _ _ c.requires
 
 pub release-requires : goal.release-requires
-release-requires c = held-stackable _ _ _ _ _ c.requires _ _ _ c.unlink-loose.ensures
+release-requires c = held_stackable _ _ _ _ _ c.requires _ _ _ c.unlink-loose.ensures
 
 pub returns : goal.returns
 returns c = removed _ _ _ _ _ c.requires _ _ _ c.unlink-loose.ensures _ _ _ _ c.release.ensures

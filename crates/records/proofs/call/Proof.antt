@@ -49,8 +49,8 @@ use Rattle.plan.specs.States.{state}
 use Rattle.door.specs.declared.Said.{Said}
 use Rattle.records.specs.Saving.{Saved}
 use Rattle.records.specs.Into.{CallsWithin, CallsInto}
-use Rattle.records.proofs.Recording.{calls-into}
-use Rattle.records.proofs.Relending.{LentAgain, LentShared, lends_again, turns-shared, comes_back}
+use Rattle.records.proofs.Recording.{calls_into}
+use Rattle.records.proofs.Relending.{LentAgain, LentShared, lends_again, turns_shared, comes_back}
 use Rattle.head.specs.contracts.Head as Hd
 use Rattle.head.proofs.Head.TheLaws as Hd'
 use Rattle.head.specs.contracts.Command as Cm
@@ -284,13 +284,13 @@ module _ {M : Type 1} {𝓤 : Ura M} (𝓛 : Logic 𝓤) (mem : Memory → SProp
       move ! (1 ∷ []) $ split ! $ move ! (1 ∷ []) $ split ! $ move ! (1 ∷ []) $ split ! $ move ! (1 ∷ []) $ split ! $ move ! (1 ∷ []) $ drop ! $
       -- the row lists, as it left them, are shared
       move ! (3 ∷ []) $ lft_end ! tt $ lft_new ! tt (λ β₉. move ! (1 ∷ 29 ∷ 17 ∷ []) $
-      use3 𝓛 (later (some (λ (ε₉ : GName). ‵ ((ShrSlice (named 1) (β₉ ∷ []) u64).own_val (ref b₉ o₉ ε₉ ws.1.1.1.1.1.1.1.1.1.0) (s₉ ∷ [])) ⊛ ‵ (LentShared u64 κ₉ (β₉ ∷ []) q₉ γ₉ b₉ o₉ ws.1.1.1.1.1.1.1.1.1.0 x₉)))) (turns-shared u64 κ₉ (β₉ ∷ []) q₉ γ₉ b₉ o₉ 𝓛 (named 8) (named 1) x₉ ws.1.1.1.1.1.1.1.1.1.0 g₉ e₉ (α₉ ∷ []) δ₉) $ await ! tt $ pick ! (λ ε₉. split ! $
+      use3 𝓛 (later (some (λ (ε₉ : GName). ‵ ((ShrSlice (named 1) (β₉ ∷ []) u64).own_val (ref b₉ o₉ ε₉ ws.1.1.1.1.1.1.1.1.1.0) (s₉ ∷ [])) ⊛ ‵ (LentShared u64 κ₉ (β₉ ∷ []) q₉ γ₉ b₉ o₉ ws.1.1.1.1.1.1.1.1.1.0 x₉)))) (turns_shared u64 κ₉ (β₉ ∷ []) q₉ γ₉ b₉ o₉ 𝓛 (named 8) (named 1) x₉ ws.1.1.1.1.1.1.1.1.1.0 g₉ e₉ (α₉ ∷ []) δ₉) $ await ! tt $ pick ! (λ ε₉. split ! $
       move ! (5 ∷ []) $ lft_end ! tt $ lft_new ! tt (λ β₁₀. move ! (1 ∷ 29 ∷ 18 ∷ []) $
-      use3 𝓛 (later (some (λ (ε₁₀ : GName). ‵ ((ShrSlice (named 2) (β₁₀ ∷ []) u32).own_val (ref b₁₀ o₁₀ ε₁₀ ws.1.1.1.1.1.1.1.1.1.1.0) (s₁₀ ∷ [])) ⊛ ‵ (LentShared u32 κ₁₀ (β₁₀ ∷ []) q₁₀ γ₁₀ b₁₀ o₁₀ ws.1.1.1.1.1.1.1.1.1.1.0 x₁₀)))) (turns-shared u32 κ₁₀ (β₁₀ ∷ []) q₁₀ γ₁₀ b₁₀ o₁₀ 𝓛 (named 9) (named 2) x₁₀ ws.1.1.1.1.1.1.1.1.1.1.0 g₁₀ e₁₀ (α₁₀ ∷ []) δ₁₀) $ await ! tt $ pick ! (λ ε₁₀. split ! $
+      use3 𝓛 (later (some (λ (ε₁₀ : GName). ‵ ((ShrSlice (named 2) (β₁₀ ∷ []) u32).own_val (ref b₁₀ o₁₀ ε₁₀ ws.1.1.1.1.1.1.1.1.1.1.0) (s₁₀ ∷ [])) ⊛ ‵ (LentShared u32 κ₁₀ (β₁₀ ∷ []) q₁₀ γ₁₀ b₁₀ o₁₀ ws.1.1.1.1.1.1.1.1.1.1.0 x₁₀)))) (turns_shared u32 κ₁₀ (β₁₀ ∷ []) q₁₀ γ₁₀ b₁₀ o₁₀ 𝓛 (named 9) (named 2) x₁₀ ws.1.1.1.1.1.1.1.1.1.1.0 g₁₀ e₁₀ (α₁₀ ∷ []) δ₁₀) $ await ! tt $ pick ! (λ ε₁₀. split ! $
       move ! (7 ∷ []) $ lft_end ! tt $ lft_new ! tt (λ β₁₁. move ! (1 ∷ 29 ∷ 19 ∷ []) $
-      use3 𝓛 (later (some (λ (ε₁₁ : GName). ‵ ((ShrSlice (named 3) (β₁₁ ∷ []) u64).own_val (ref b₁₁ o₁₁ ε₁₁ ws.1.1.1.1.1.1.1.1.1.1.1.0) (s₁₁ ∷ [])) ⊛ ‵ (LentShared u64 κ₁₁ (β₁₁ ∷ []) q₁₁ γ₁₁ b₁₁ o₁₁ ws.1.1.1.1.1.1.1.1.1.1.1.0 x₁₁)))) (turns-shared u64 κ₁₁ (β₁₁ ∷ []) q₁₁ γ₁₁ b₁₁ o₁₁ 𝓛 (named 10) (named 3) x₁₁ ws.1.1.1.1.1.1.1.1.1.1.1.0 g₁₁ e₁₁ (α₁₁ ∷ []) δ₁₁) $ await ! tt $ pick ! (λ ε₁₁. split ! $
+      use3 𝓛 (later (some (λ (ε₁₁ : GName). ‵ ((ShrSlice (named 3) (β₁₁ ∷ []) u64).own_val (ref b₁₁ o₁₁ ε₁₁ ws.1.1.1.1.1.1.1.1.1.1.1.0) (s₁₁ ∷ [])) ⊛ ‵ (LentShared u64 κ₁₁ (β₁₁ ∷ []) q₁₁ γ₁₁ b₁₁ o₁₁ ws.1.1.1.1.1.1.1.1.1.1.1.0 x₁₁)))) (turns_shared u64 κ₁₁ (β₁₁ ∷ []) q₁₁ γ₁₁ b₁₁ o₁₁ 𝓛 (named 10) (named 3) x₁₁ ws.1.1.1.1.1.1.1.1.1.1.1.0 g₁₁ e₁₁ (α₁₁ ∷ []) δ₁₁) $ await ! tt $ pick ! (λ ε₁₁. split ! $
       move ! (9 ∷ []) $ lft_end ! tt $ lft_new ! tt (λ β₁₂. move ! (1 ∷ 29 ∷ 20 ∷ []) $
-      use3 𝓛 (later (some (λ (ε₁₂ : GName). ‵ ((ShrSlice (named 4) (β₁₂ ∷ []) u64).own_val (ref b₁₂ o₁₂ ε₁₂ ws.1.1.1.1.1.1.1.1.1.1.1.1.0) (s₁₂ ∷ [])) ⊛ ‵ (LentShared u64 κ₁₂ (β₁₂ ∷ []) q₁₂ γ₁₂ b₁₂ o₁₂ ws.1.1.1.1.1.1.1.1.1.1.1.1.0 x₁₂)))) (turns-shared u64 κ₁₂ (β₁₂ ∷ []) q₁₂ γ₁₂ b₁₂ o₁₂ 𝓛 (named 11) (named 4) x₁₂ ws.1.1.1.1.1.1.1.1.1.1.1.1.0 g₁₂ e₁₂ (α₁₂ ∷ []) δ₁₂) $ await ! tt $ pick ! (λ ε₁₂. split ! $
+      use3 𝓛 (later (some (λ (ε₁₂ : GName). ‵ ((ShrSlice (named 4) (β₁₂ ∷ []) u64).own_val (ref b₁₂ o₁₂ ε₁₂ ws.1.1.1.1.1.1.1.1.1.1.1.1.0) (s₁₂ ∷ [])) ⊛ ‵ (LentShared u64 κ₁₂ (β₁₂ ∷ []) q₁₂ γ₁₂ b₁₂ o₁₂ ws.1.1.1.1.1.1.1.1.1.1.1.1.0 x₁₂)))) (turns_shared u64 κ₁₂ (β₁₂ ∷ []) q₁₂ γ₁₂ b₁₂ o₁₂ 𝓛 (named 11) (named 4) x₁₂ ws.1.1.1.1.1.1.1.1.1.1.1.1.0 g₁₂ e₁₂ (α₁₂ ∷ []) δ₁₂) $ await ! tt $ pick ! (λ ε₁₂. split ! $
       -- how many rows there are
       nothing ! $ move ! (21 ∷ 0 ∷ []) $ fjoin ! $ nothing ! $ use2 𝓛 (raw ((Counts 𝓛 mem run).pre (to₂ r v))) (goes₂ r v) $
       calls_at ! fm (Counts 𝓛 mem run) known₂ (to₂ r v) (and_then ! (load ! (from ! (stop !)) (look ! 103 refl)) (no_more !)) (λ u.
@@ -362,7 +362,7 @@ module _ {M : Type 1} {𝓤 : Ura M} (𝓛 : Logic 𝓤) (mem : Memory → SProp
       move ! (2 ∷ 0 ∷ []) $ fjoin ! $ move ! (2 ∷ 0 ∷ []) $ fjoin ! $ move ! (2 ∷ 0 ∷ []) $ fjoin ! $ move ! (2 ∷ 0 ∷ []) $ fjoin ! $ move ! (2 ∷ 0 ∷ []) $ fjoin ! $
       move ! (2 ∷ 0 ∷ []) $ fjoin ! $ owned ! Hd.the_row (Is Hd.the_row) (LL.makes Hd.the_type Hd'.the_plain 𝓛) h _ hs $ fjoin ! $
       owned ! Sd.the_row (Is Sd.the_row) (LL.makes Sd.the_type Sd'.the_plain 𝓛) r _ is $ keep ! (2 ∷ 1 ∷ 0 ∷ []) $
-      by ! (exits ws.1.0 ws.1.1.0 ws.1.1.1.0 ws.1.1.1.1.0 ws.1.1.1.1.1.0 ws.1.1.1.1.1.1.0 ws.1.1.1.1.1.1.1.0 ws.1.1.1.1.1.1.1.1.0 ws.1.1.1.1.1.1.1.1.1.0 ws.1.1.1.1.1.1.1.1.1.1.0 ws.1.1.1.1.1.1.1.1.1.1.1.0 ws.1.1.1.1.1.1.1.1.1.1.1.1.0 zs.0 r v e₁ e₂ e₃ e₄ e₅ e₆ e₇ e₈ e₉ e₁₀ e₁₁ e₁₂ e₁₃ (calls-into m (state h x₁ x₂ x₃ x₄ x₅ x₆ x₇ x₈) (fields x₉ x₁₀ x₁₁ x₁₂) (fields ws.1.1.1.1.1.1.1.1.1.0 ws.1.1.1.1.1.1.1.1.1.1.0 ws.1.1.1.1.1.1.1.1.1.1.1.0 ws.1.1.1.1.1.1.1.1.1.1.1.1.0) r.answer ys zs.0 b (subst (λ (k : ℕ). Saved k (fields ws.1.1.1.1.1.1.1.1.1.0 ws.1.1.1.1.1.1.1.1.1.1.0 ws.1.1.1.1.1.1.1.1.1.1.1.0 ws.1.1.1.1.1.1.1.1.1.1.1.1.0) ys zs.0 b) counted saved) said))))))))))))))))))))))))))))))))))))))))))))))))))))))))))))))))))))))))))))))))))))))))))))))))))))
+      by ! (exits ws.1.0 ws.1.1.0 ws.1.1.1.0 ws.1.1.1.1.0 ws.1.1.1.1.1.0 ws.1.1.1.1.1.1.0 ws.1.1.1.1.1.1.1.0 ws.1.1.1.1.1.1.1.1.0 ws.1.1.1.1.1.1.1.1.1.0 ws.1.1.1.1.1.1.1.1.1.1.0 ws.1.1.1.1.1.1.1.1.1.1.1.0 ws.1.1.1.1.1.1.1.1.1.1.1.1.0 zs.0 r v e₁ e₂ e₃ e₄ e₅ e₆ e₇ e₈ e₉ e₁₀ e₁₁ e₁₂ e₁₃ (calls_into m (state h x₁ x₂ x₃ x₄ x₅ x₆ x₇ x₈) (fields x₉ x₁₀ x₁₁ x₁₂) (fields ws.1.1.1.1.1.1.1.1.1.0 ws.1.1.1.1.1.1.1.1.1.1.0 ws.1.1.1.1.1.1.1.1.1.1.1.0 ws.1.1.1.1.1.1.1.1.1.1.1.1.0) r.answer ys zs.0 b (subst (λ (k : ℕ). Saved k (fields ws.1.1.1.1.1.1.1.1.1.0 ws.1.1.1.1.1.1.1.1.1.1.0 ws.1.1.1.1.1.1.1.1.1.1.1.0 ws.1.1.1.1.1.1.1.1.1.1.1.1.0) ys zs.0 b) counted saved) said))))))))))))))))))))))))))))))))))))))))))))))))))))))))))))))))))))))))))))))))))))))))))))))))))))
 
 module _ {M : Type 1} {𝓤 : Ura M} (𝓛 : Logic 𝓤) (mem : Memory → SProp 𝓤) (run : Routine → Fun 𝓤) where
   open 𝓛 use {H}

@@ -2,7 +2,7 @@
 -- Assumes nothing.
 use borrow.Author.Rules.{rules}
 use native.Mathlib.Omega.{arith}
-use Rattle.records.proofs.Cutting.{counted, as_long, calls-within}
+use Rattle.records.proofs.Cutting.{counted, as_long, calls_within}
 use Rattle.records.proofs.call_within.Statement.{statement}
 use Rattle.records.proofs.call_within.Tie as tie
 
@@ -73,7 +73,7 @@ same-length-12 : tie.Need-same-length-12
 same-length-12 c = as_long c.before.before.before.before.before.before.before.before.before.before.before.before.before.before.before.before.before.before.before.before.before.before.before.before.before.before.before.before.before.before.before.before.before.before.before.before.before.fewest.result c.before.before.before.before.before.before.before.before.before.before.before.before.before.before.before.before.before.before.before.before.before.before.before.before.before.before.before.before.before.before.before.before.before.before.before.before.before.before.before.before.before.before.before.before.before.before.before.before.before.before.args.row-weights.now c.before.before.before.before.before.before.before.before.before.before.before.before.before.before.before.before.before.before.before.before.before.before.before.before.call.new.1.1.1.1.1.1.1.1.1.1.1.1.0 c.before.before.before.before.before.before.before.before.before.before.before.before.before.before.before.before.before.before.before.before.before.before.before.before.call.auto.1.1.1.1.1.1.1.1.1.1.1.1.0
 
 returns : tie.Need-returns
-returns c = calls-within _ _ _ c.before.before.before.before.before.before.before.before.before.before.before.before.before.before.before.before.before.before.before.before.before.before.before.before.before.before.before.before.before.before.before.before.before.before.before.before.before.fewest.ensures c.before.before.before.before.before.before.before.before.before.before.before.before.before.before.before.before.before.before.before.before.before.before.before.before.call.ensures
+returns c = calls_within _ _ _ c.before.before.before.before.before.before.before.before.before.before.before.before.before.before.before.before.before.before.before.before.before.before.before.before.before.before.before.before.before.before.before.before.before.before.before.before.before.fewest.ensures c.before.before.before.before.before.before.before.before.before.before.before.before.before.before.before.before.before.before.before.before.before.before.before.before.call.ensures
 
 pub call_within_spec : {M : Type 1} → statement M
 call_within_spec =

@@ -2,7 +2,7 @@
 -- Assumes nothing.
 use borrow.Author.Rules.{rules}
 use native.Mathlib.Omega.{arith}
-use Rattle.records.proofs.Cutting.{counted, as_long, tells-within}
+use Rattle.records.proofs.Cutting.{counted, as_long, tells_within}
 use Rattle.records.proofs.tell_within.Statement.{statement}
 use Rattle.records.proofs.tell_within.Tie as tie
 
@@ -49,7 +49,7 @@ same-length-4 : tie.Need-same-length-4
 same-length-4 c = as_long c.before.before.before.before.before.before.before.before.before.before.before.before.before.fewest.result c.before.before.before.before.before.before.before.before.before.before.before.before.before.before.before.before.before.before.before.before.before.before.before.before.before.before.args.row-weights.now c.before.before.before.before.before.before.before.before.tell.new.1.1.1.1.1.1.1.1.1.1.1.1.0 c.before.before.before.before.before.before.before.before.tell.auto.1.1.1.1.1.1.1.1.1.1.1.1.0
 
 returns : tie.Need-returns
-returns c = tells-within _ _ _ c.before.before.before.before.before.before.before.before.before.before.before.before.before.fewest.ensures c.before.before.before.before.before.before.before.before.tell.ensures
+returns c = tells_within _ _ _ c.before.before.before.before.before.before.before.before.before.before.before.before.before.fewest.ensures c.before.before.before.before.before.before.before.before.tell.ensures
 
 pub tell_within_spec : {M : Type 1} → statement M
 tell_within_spec =

@@ -7,7 +7,7 @@ use lib.Seq.{length-take-le}
 use Rattle.head.specs.Fresh.{fresh_head}
 use Rattle.script_play.specs.Playing.{lent}
 use Rattle.script_play.proofs.Room.{text_fits}
-use Rattle.script_play.proofs.Playing.{Going, going_first, going-cuts, going-takes, going-further, going_less, going_on, going_last}
+use Rattle.script_play.proofs.Playing.{Going, going_first, going_cuts, going_takes, going_further, going_less, going_on, going_last}
 use Rattle.script_play.proofs.play.Statement.{statement}
 use Rattle.script_play.proofs.play.Tie as tie
 
@@ -57,10 +57,10 @@ loop-holds : tie.Need-loop-init invariant-loop decreases-loop
 loop-holds c = (going_first c.before.before.before.before.before.before.before.before.before.before.before.before.before.before.before.requires c.fresh.ensures, refl, refl, refl, refl, refl, refl, refl, refl, refl, refl, refl, refl, refl)
 
 line-end-requires : tie.Need-line-end-requires invariant-loop decreases-loop
-line-end-requires c κs = going-cuts c.before.loop.invariant.0 c.loop-test.true
+line-end-requires c κs = going_cuts c.before.loop.invariant.0 c.loop-test.true
 
 take-requires : tie.Need-take-requires invariant-loop decreases-loop
-take-requires c κs = going-takes c.before.before.before.before.before.before.before.before.before.before.before.before.before.before.before.loop.invariant.0 c.before.before.before.before.before.before.before.before.before.before.before.before.before.before.loop-test.true c.before.before.before.before.before.before.before.before.before.before.before.before.before.line-end.ensures
+take-requires c κs = going_takes c.before.before.before.before.before.before.before.before.before.before.before.before.before.before.before.loop.invariant.0 c.before.before.before.before.before.before.before.before.before.before.before.before.before.before.loop-test.true c.before.before.before.before.before.before.before.before.before.before.before.before.before.line-end.ensures
 
 slice-reshare-prefix-write-all : tie.Need-slice-reshare-prefix-write-all invariant-loop decreases-loop
 slice-reshare-prefix-write-all c = text_fits c.before.before.before.before.before.before.before.before.before.before.before.before.before.before.before.before.before.before.before.before.before.before.before.before.before.before.take.ensures.text
@@ -72,7 +72,7 @@ write-all-requires : tie.Need-write-all-requires invariant-loop decreases-loop
 write-all-requires c κs = tt
 
 next-line-requires : tie.Need-next-line-requires invariant-loop decreases-loop
-next-line-requires c κs = going-further c.before.before.before.before.before.before.before.before.before.before.before.before.before.before.before.before.before.before.before.before.before.before.before.before.before.before.before.before.before.before.before.before.before.before.before.before.before.before.before.before.before.before.before.before.before.loop.invariant.0 c.before.before.before.before.before.before.before.before.before.before.before.before.before.before.before.before.before.before.before.before.before.before.before.before.before.before.before.before.before.before.before.before.before.before.before.before.before.before.before.before.before.before.before.before.loop-test.true c.before.before.before.before.before.before.before.before.before.before.before.before.before.before.before.before.before.before.before.before.before.before.before.before.before.before.before.before.before.before.before.before.before.before.before.before.before.before.before.before.before.before.before.line-end.ensures
+next-line-requires c κs = going_further c.before.before.before.before.before.before.before.before.before.before.before.before.before.before.before.before.before.before.before.before.before.before.before.before.before.before.before.before.before.before.before.before.before.before.before.before.before.before.before.before.before.before.before.before.before.loop.invariant.0 c.before.before.before.before.before.before.before.before.before.before.before.before.before.before.before.before.before.before.before.before.before.before.before.before.before.before.before.before.before.before.before.before.before.before.before.before.before.before.before.before.before.before.before.before.loop-test.true c.before.before.before.before.before.before.before.before.before.before.before.before.before.before.before.before.before.before.before.before.before.before.before.before.before.before.before.before.before.before.before.before.before.before.before.before.before.before.before.before.before.before.before.line-end.ensures
 
 loop-less : tie.Need-loop-smaller invariant-loop decreases-loop
 loop-less c = going_less (top c).loop.invariant.0 (entered c).loop-test.true (ended c).line-end.ensures (written c).write-all.result c.next-line.ensures

@@ -2,7 +2,7 @@
 -- Assumes nothing.
 use mathlib.Core.Path.{refl}
 use Rattle.script_read.specs.Grammar.{open_numbers}
-use Rattle.script_read.proofs.Saying.{open_none, open-some}
+use Rattle.script_read.proofs.Saying.{open_none, open_some}
 use borrow.Author.Rules.{rules}
 use Rattle.script_read.proofs.open_line.Statement.{statement}
 use Rattle.script_read.proofs.open_line.Tie as tie
@@ -42,27 +42,27 @@ enum-told-5 c = search rules
 
 returns-2 : tie.Need-returns-2
 unfolding open_numbers
-returns-2 c = open-some _ _ _ _ c.before.before.before.before.before.before.before.before.requires.0 c.before.before.before.before.before.before.if1.false c.before.before.before.before.before.before.before.before.requires.1 c.before.before.before.before.before.word-end.ensures c.before.before.before.before.read-numbers.ensures c.before.before.capacity.given.1 c.kind-line.ensures
+returns-2 c = open_some _ _ _ _ c.before.before.before.before.before.before.before.before.requires.0 c.before.before.before.before.before.before.if1.false c.before.before.before.before.before.before.before.before.requires.1 c.before.before.before.before.before.word-end.ensures c.before.before.before.before.read-numbers.ensures c.before.before.capacity.given.1 c.kind-line.ensures
 
 returns-3 : tie.Need-returns-3
 unfolding open_numbers
-returns-3 c = open-some _ _ _ _ c.before.before.before.before.before.before.requires.0 c.before.before.before.before.if1.false c.before.before.before.before.before.before.requires.1 c.before.before.before.word-end.ensures c.before.before.read-numbers.ensures c.enum_told.given.1 refl
+returns-3 c = open_some _ _ _ _ c.before.before.before.before.before.before.requires.0 c.before.before.before.before.if1.false c.before.before.before.before.before.before.requires.1 c.before.before.before.word-end.ensures c.before.before.read-numbers.ensures c.enum_told.given.1 refl
 
 returns-4 : tie.Need-returns-4
 unfolding open_numbers
-returns-4 c = open-some _ _ _ _ c.before.before.before.before.before.before.requires.0 c.before.before.before.before.if1.false c.before.before.before.before.before.before.requires.1 c.before.before.before.word-end.ensures c.before.before.read-numbers.ensures c.enum-told2.given.1 refl
+returns-4 c = open_some _ _ _ _ c.before.before.before.before.before.before.requires.0 c.before.before.before.before.if1.false c.before.before.before.before.before.before.requires.1 c.before.before.before.word-end.ensures c.before.before.read-numbers.ensures c.enum-told2.given.1 refl
 
 returns-5 : tie.Need-returns-5
 unfolding open_numbers
-returns-5 c = open-some _ _ _ _ c.before.before.before.before.before.before.requires.0 c.before.before.before.before.if1.false c.before.before.before.before.before.before.requires.1 c.before.before.before.word-end.ensures c.before.before.read-numbers.ensures c.enum-told3.given.1 refl
+returns-5 c = open_some _ _ _ _ c.before.before.before.before.before.before.requires.0 c.before.before.before.before.if1.false c.before.before.before.before.before.before.requires.1 c.before.before.before.word-end.ensures c.before.before.read-numbers.ensures c.enum-told3.given.1 refl
 
 returns-6 : tie.Need-returns-6
 unfolding open_numbers
-returns-6 c = open-some _ _ _ _ c.before.before.before.before.before.before.requires.0 c.before.before.before.before.if1.false c.before.before.before.before.before.before.requires.1 c.before.before.before.word-end.ensures c.before.before.read-numbers.ensures c.enum-told4.given.1 refl
+returns-6 c = open_some _ _ _ _ c.before.before.before.before.before.before.requires.0 c.before.before.before.before.if1.false c.before.before.before.before.before.before.requires.1 c.before.before.before.word-end.ensures c.before.before.read-numbers.ensures c.enum-told4.given.1 refl
 
 returns-7 : tie.Need-returns-7
 unfolding open_numbers
-returns-7 c = open-some _ _ _ _ c.before.before.before.before.before.before.requires.0 c.before.before.before.before.if1.false c.before.before.before.before.before.before.requires.1 c.before.before.before.word-end.ensures c.before.before.read-numbers.ensures c.enum-told5.given.1 refl
+returns-7 c = open_some _ _ _ _ c.before.before.before.before.before.before.requires.0 c.before.before.before.before.if1.false c.before.before.before.before.before.before.requires.1 c.before.before.before.word-end.ensures c.before.before.read-numbers.ensures c.enum-told5.given.1 refl
 
 pub open_line_spec : {M : Type 1} → statement M
 open_line_spec =

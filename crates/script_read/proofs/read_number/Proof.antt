@@ -5,7 +5,7 @@ use mathlib.Core.Path.{◌≡◌, sym, ◌∙◌}
 use native.Mathlib.Omega.{arith}
 use lib.Seq.{slice}
 use Rattle.script_read.specs.Numerals.{most_wide, number_of}
-use Rattle.script_read.proofs.Reading.{number_after, number_none, number_start, number-low, number-high, number-wide, number_more, number_last}
+use Rattle.script_read.proofs.Reading.{number_after, number_none, number_start, number_low, number_high, number_wide, number_more, number_last}
 use Rattle.script_read.proofs.read_number.Statement.{statement}
 use Rattle.script_read.proofs.read_number.Tie as tie
 
@@ -27,10 +27,10 @@ shared-slice-read-byte : tie.Need-shared-slice-read-byte invariant-loop decrease
 shared-slice-read-byte c = omega arith
 
 returns-2 : tie.Need-returns-2 invariant-loop decreases-loop
-returns-2 c = sym (c.before.before.before.loop.invariant.2 ∙ number-low _ _ _ c.before.before.loop-test.true c.before.before.before.before.before.requires.1 _ c.if2.true)
+returns-2 c = sym (c.before.before.before.loop.invariant.2 ∙ number_low _ _ _ c.before.before.loop-test.true c.before.before.before.before.before.requires.1 _ c.if2.true)
 
 returns-3 : tie.Need-returns-3 invariant-loop decreases-loop
-returns-3 c = sym (c.before.before.before.before.loop.invariant.2 ∙ number-high _ _ _ c.before.before.before.loop-test.true c.before.before.before.before.before.before.requires.1 _ c.before.if2.false c.if3.true)
+returns-3 c = sym (c.before.before.before.before.loop.invariant.2 ∙ number_high _ _ _ c.before.before.before.loop-test.true c.before.before.before.before.before.before.requires.1 _ c.before.if2.false c.if3.true)
 
 cast-d : tie.Need-overflow-cast-d invariant-loop decreases-loop
 cast-d c = omega arith
@@ -39,7 +39,7 @@ sub-if4 : tie.Need-overflow-sub-if4 invariant-loop decreases-loop
 sub-if4 c = omega arith
 
 returns-4 : tie.Need-returns-4 invariant-loop decreases-loop
-returns-4 c = sym (c.before.before.before.before.before.loop.invariant.2 ∙ number-wide _ _ _ c.before.before.before.before.loop-test.true c.before.before.before.before.before.before.before.requires.1 _ c.before.before.if2.false c.before.if3.false c.if4.true)
+returns-4 c = sym (c.before.before.before.before.before.loop.invariant.2 ∙ number_wide _ _ _ c.before.before.before.before.loop-test.true c.before.before.before.before.before.before.before.requires.1 _ c.before.before.if2.false c.before.if3.false c.if4.true)
 
 mul-v : tie.Need-overflow-mul-v invariant-loop decreases-loop
 mul-v c = omega arith

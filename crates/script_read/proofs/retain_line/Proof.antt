@@ -1,6 +1,6 @@
 -- `script_read::retain_line` meets its contract: with `not` or without.
 -- Assumes nothing.
-use Rattle.script_read.proofs.Saying.{retain_none, retain-not, retain-plain}
+use Rattle.script_read.proofs.Saying.{retain_none, retain_not, retain_plain}
 use borrow.Author.Rules.{rules}
 use Rattle.script_read.proofs.retain_line.Statement.{statement}
 use Rattle.script_read.proofs.retain_line.Tie as tie
@@ -24,13 +24,13 @@ rule-line-requires : tie.Need-rule-line-requires
 rule-line-requires c κs = search rules
 
 returns-2 : tie.Need-returns-2
-returns-2 c = retain-not _ _ _ _ c.before.before.before.before.before.before.before.requires.0 c.before.before.before.before.before.if1.false c.before.before.before.before.before.before.before.requires.1 c.before.before.before.before.word-end.ensures c.before.before.is_IsWord.ensures c.before.if2.true c.rule-line.ensures
+returns-2 c = retain_not _ _ _ _ c.before.before.before.before.before.before.before.requires.0 c.before.before.before.before.before.if1.false c.before.before.before.before.before.before.before.requires.1 c.before.before.before.before.word-end.ensures c.before.before.is_IsWord.ensures c.before.if2.true c.rule-line.ensures
 
 rule-line-requires-2 : tie.Need-rule-line-requires-2
 rule-line-requires-2 c κs = search rules
 
 returns-3 : tie.Need-returns-3
-returns-3 c = retain-plain _ _ _ _ c.before.before.before.before.before.before.before.requires.0 c.before.before.before.before.before.if1.false c.before.before.before.before.before.before.before.requires.1 c.before.before.before.before.word-end.ensures c.before.before.is_IsWord.ensures c.before.if2.false c.rule-line2.ensures
+returns-3 c = retain_plain _ _ _ _ c.before.before.before.before.before.before.before.requires.0 c.before.before.before.before.before.if1.false c.before.before.before.before.before.before.before.requires.1 c.before.before.before.before.word-end.ensures c.before.before.is_IsWord.ensures c.before.if2.false c.rule-line2.ensures
 
 pub retain_line_spec : {M : Type 1} → statement M
 retain_line_spec =

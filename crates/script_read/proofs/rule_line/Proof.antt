@@ -2,7 +2,7 @@
 -- Assumes nothing.
 use mathlib.Core.Path.{refl}
 use Rattle.script_read.specs.Grammar.{rule_numbers}
-use Rattle.script_read.proofs.Saying.{rule_none, rule-some}
+use Rattle.script_read.proofs.Saying.{rule_none, rule_some}
 use borrow.Author.Rules.{rules}
 use Rattle.script_read.proofs.rule_line.Statement.{statement}
 use Rattle.script_read.proofs.rule_line.Tie as tie
@@ -45,27 +45,27 @@ enum-told-4 c = search rules
 
 returns-2 : tie.Need-returns-2
 unfolding rule_numbers
-returns-2 c = rule-some _ _ _ _ c.before.before.before.before.before.before.before.before.requires.0 c.before.before.before.before.before.before.if1.false c.before.before.before.before.before.before.before.before.requires.1 c.before.before.before.before.before.word-end.ensures c.before.before.before.before.read-numbers.ensures c.before.before.a.given.1 _ c.bound-line.ensures
+returns-2 c = rule_some _ _ _ _ c.before.before.before.before.before.before.before.before.requires.0 c.before.before.before.before.before.before.if1.false c.before.before.before.before.before.before.before.before.requires.1 c.before.before.before.before.before.word-end.ensures c.before.before.before.before.read-numbers.ensures c.before.before.a.given.1 _ c.bound-line.ensures
 
 returns-3 : tie.Need-returns-3
 unfolding rule_numbers
-returns-3 c = rule-some _ _ _ _ c.before.before.before.before.before.before.before.before.requires.0 c.before.before.before.before.before.before.if1.false c.before.before.before.before.before.before.before.before.requires.1 c.before.before.before.before.before.word-end.ensures c.before.before.before.before.read-numbers.ensures c.before.before.a2.given.1 _ c.range-line.ensures
+returns-3 c = rule_some _ _ _ _ c.before.before.before.before.before.before.before.before.requires.0 c.before.before.before.before.before.before.if1.false c.before.before.before.before.before.before.before.before.requires.1 c.before.before.before.before.before.word-end.ensures c.before.before.before.before.read-numbers.ensures c.before.before.a2.given.1 _ c.range-line.ensures
 
 returns-4 : tie.Need-returns-4
 unfolding rule_numbers
-returns-4 c = rule-some _ _ _ _ c.before.before.before.before.before.before.requires.0 c.before.before.before.before.if1.false c.before.before.before.before.before.before.requires.1 c.before.before.before.word-end.ensures c.before.before.read-numbers.ensures c.enum_told.given.1 _ refl
+returns-4 c = rule_some _ _ _ _ c.before.before.before.before.before.before.requires.0 c.before.before.before.before.if1.false c.before.before.before.before.before.before.requires.1 c.before.before.before.word-end.ensures c.before.before.read-numbers.ensures c.enum_told.given.1 _ refl
 
 returns-5 : tie.Need-returns-5
 unfolding rule_numbers
-returns-5 c = rule-some _ _ _ _ c.before.before.before.before.before.before.requires.0 c.before.before.before.before.if1.false c.before.before.before.before.before.before.requires.1 c.before.before.before.word-end.ensures c.before.before.read-numbers.ensures c.enum-told2.given.1 _ refl
+returns-5 c = rule_some _ _ _ _ c.before.before.before.before.before.before.requires.0 c.before.before.before.before.if1.false c.before.before.before.before.before.before.requires.1 c.before.before.before.word-end.ensures c.before.before.read-numbers.ensures c.enum-told2.given.1 _ refl
 
 returns-6 : tie.Need-returns-6
 unfolding rule_numbers
-returns-6 c = rule-some _ _ _ _ c.before.before.before.before.before.before.requires.0 c.before.before.before.before.if1.false c.before.before.before.before.before.before.requires.1 c.before.before.before.word-end.ensures c.before.before.read-numbers.ensures c.enum-told3.given.1 _ refl
+returns-6 c = rule_some _ _ _ _ c.before.before.before.before.before.before.requires.0 c.before.before.before.before.if1.false c.before.before.before.before.before.before.requires.1 c.before.before.before.word-end.ensures c.before.before.read-numbers.ensures c.enum-told3.given.1 _ refl
 
 returns-7 : tie.Need-returns-7
 unfolding rule_numbers
-returns-7 c = rule-some _ _ _ _ c.before.before.before.before.before.before.requires.0 c.before.before.before.before.if1.false c.before.before.before.before.before.before.requires.1 c.before.before.before.word-end.ensures c.before.before.read-numbers.ensures c.enum-told4.given.1 _ refl
+returns-7 c = rule_some _ _ _ _ c.before.before.before.before.before.before.requires.0 c.before.before.before.before.if1.false c.before.before.before.before.before.before.requires.1 c.before.before.before.word-end.ensures c.before.before.read-numbers.ensures c.enum-told4.given.1 _ refl
 
 pub rule_line_spec : {M : Type 1} → statement M
 rule_line_spec =

@@ -1,6 +1,6 @@
 -- `script_read::understand` meets its contract: `open`, `retain`, or a call.
 -- Assumes nothing.
-use Rattle.script_read.proofs.Saying.{says_open, says-retain, says-call}
+use Rattle.script_read.proofs.Saying.{says_open, says_retain, says_call}
 use borrow.Author.Rules.{rules}
 use Rattle.script_read.proofs.understand.Statement.{statement}
 use Rattle.script_read.proofs.understand.Tie as tie
@@ -30,13 +30,13 @@ retain-line-requires : tie.Need-retain-line-requires
 retain-line-requires c κs = search rules
 
 returns-2 : tie.Need-returns-2
-returns-2 c = says-retain _ _ _ _ c.before.before.before.before.before.before.before.word-end.ensures c.before.before.before.before.before.is_IsWord.ensures c.before.before.before.before.if1.false c.before.before.is-word2.ensures c.before.if2.true c.retain-line.ensures
+returns-2 c = says_retain _ _ _ _ c.before.before.before.before.before.before.before.word-end.ensures c.before.before.before.before.before.is_IsWord.ensures c.before.before.before.before.if1.false c.before.before.is-word2.ensures c.before.if2.true c.retain-line.ensures
 
 call-line-requires : tie.Need-call-line-requires
 call-line-requires c κs = search rules
 
 returns-3 : tie.Need-returns-3
-returns-3 c = says-call _ _ _ _ c.before.before.before.before.before.before.before.word-end.ensures c.before.before.before.before.before.is_IsWord.ensures c.before.before.before.before.if1.false c.before.before.is-word2.ensures c.before.if2.false c.call_line.ensures
+returns-3 c = says_call _ _ _ _ c.before.before.before.before.before.before.before.word-end.ensures c.before.before.before.before.before.is_IsWord.ensures c.before.before.before.before.if1.false c.before.before.is-word2.ensures c.before.if2.false c.call_line.ensures
 
 pub understand_spec : {M : Type 1} → statement M
 understand_spec =

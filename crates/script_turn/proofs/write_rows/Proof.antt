@@ -4,7 +4,7 @@ use Prim.Native.Nat.{◌-◌}
 use native.Mathlib.Omega.{arith}
 use Rattle.store.specs.State.{fields}
 use Rattle.script_digits.proofs.Laying.{laid_size}
-use Rattle.script_turn.proofs.Replying.{Writing, writing_start, row-there, writing-room, writing_step, writing-end}
+use Rattle.script_turn.proofs.Replying.{Writing, writing_start, row_there, writing_room, writing_step, writing_end}
 use Rattle.script_turn.proofs.write_rows.Statement.{statement}
 use Rattle.script_turn.proofs.write_rows.Tie as tie
 
@@ -18,10 +18,10 @@ loop-holds : tie.Need-loop-init invariant-loop decreases-loop
 loop-holds c = writing_start c.before.before.before.before.before.requires
 
 read-requires : tie.Need-read-requires invariant-loop decreases-loop
-read-requires c κs = row-there c.before.before.before.before.before.before.before.requires c.before.loop.invariant c.loop-test.true
+read-requires c κs = row_there c.before.before.before.before.before.before.before.requires c.before.loop.invariant c.loop-test.true
 
 write-row-requires : tie.Need-write-row-requires invariant-loop decreases-loop
-write-row-requires c κs = writing-room c.before.before.before.before.before.before.before.before.before.requires c.before.before.before.loop.invariant
+write-row-requires c κs = writing_room c.before.before.before.before.before.before.before.before.before.requires c.before.before.before.loop.invariant
 
 add-j : tie.Need-overflow-add-j invariant-loop decreases-loop
 add-j c = omega (arith, c.before.before.before.before.before.loop-test.true)
@@ -36,7 +36,7 @@ same_length : tie.Need-same-length invariant-loop decreases-loop
 same_length c = laid_size c.before.loop.invariant.laid
 
 returns : tie.Need-returns invariant-loop decreases-loop
-returns c = writing-end c.before.before.before.before.before.before.before.requires c.before.loop.invariant c.loop-test.false
+returns c = writing_end c.before.before.before.before.before.before.before.requires c.before.loop.invariant c.loop-test.false
 
 pub write_rows_spec : {M : Type 1} → statement M
 write_rows_spec =

@@ -1,7 +1,7 @@
 -- `store::add` meets its contract: the slot that the list gives is written, then put into the table.
 -- Assumes nothing.
 use borrow.Author.Rules.{rules}
-use Rattle.store.proofs.Writing.{admits_open, admits-writable, admits-slotted, added-ok}
+use Rattle.store.proofs.Writing.{admits_open, admits_writable, admits_slotted, added_ok}
 use Rattle.store.proofs.add.Statement.{statement}
 use Rattle.store.proofs.add.Tie as tie
 
@@ -15,10 +15,10 @@ push-front-requires : tie.Need-push-front-requires
 push-front-requires c κs = admits_open c.before.before.before.before.before.before.before.before.before.before.before.before.before.before.requires
 
 set-row-requires : tie.Need-set-row-requires
-set-row-requires c κs = admits-writable c.before.before.before.before.before.before.before.before.before.before.before.before.before.before.before.before.before.before.before.before.before.before.before.before.before.before.requires _ _ _ _ c.before.before.before.before.before.before.before.before.before.before.before.push-front.ensures
+set-row-requires c κs = admits_writable c.before.before.before.before.before.before.before.before.before.before.before.before.before.before.before.before.before.before.before.before.before.before.before.before.before.before.requires _ _ _ _ c.before.before.before.before.before.before.before.before.before.before.before.push-front.ensures
 
 insert-requires : tie.Need-insert-requires
-insert-requires c κs = admits-slotted c.before.before.before.before.before.before.before.before.before.before.before.before.before.before.before.before.before.before.before.before.before.before.before.before.before.before.before.before.before.before.before.before.before.before.before.before.before.requires _ _ _ _ c.before.before.before.before.before.before.before.before.before.before.before.before.before.before.before.before.before.before.before.before.before.before.push-front.ensures _ c.before.before.before.before.before.before.before.before.before.before.set-row.ensures
+insert-requires c κs = admits_slotted c.before.before.before.before.before.before.before.before.before.before.before.before.before.before.before.before.before.before.before.before.before.before.before.before.before.before.before.before.before.before.before.before.before.before.before.before.before.requires _ _ _ _ c.before.before.before.before.before.before.before.before.before.before.before.before.before.before.before.before.before.before.before.before.before.before.push-front.ensures _ c.before.before.before.before.before.before.before.before.before.before.set-row.ensures
 
 with-weight-requires : tie.Need-with-weight-requires
 with-weight-requires c κs = search rules
@@ -50,7 +50,7 @@ same-length-8 c = search rules
 returns : tie.Need-returns
 returns c =
     rw c.with-weight.ensures
-    (added-ok c.before.before.before.before.before.before.before.before.before.before.before.before.before.before.before.before.before.before.before.before.before.before.before.before.before.before.before.before.before.before.before.before.before.before.before.before.before.before.before.before.before.before.requires _ _ _ _ c.before.before.before.before.before.before.before.before.before.before.before.before.before.before.before.before.before.before.before.before.before.before.before.before.before.before.before.push-front.ensures _ _ c.before.before.before.before.before.before.before.before.before.before.before.before.before.before.before.set-row.ensures c.before.before.before.before.insert.ensures)
+    (added_ok c.before.before.before.before.before.before.before.before.before.before.before.before.before.before.before.before.before.before.before.before.before.before.before.before.before.before.before.before.before.before.before.before.before.before.before.before.before.before.before.before.before.before.requires _ _ _ _ c.before.before.before.before.before.before.before.before.before.before.before.before.before.before.before.before.before.before.before.before.before.before.before.before.before.before.before.push-front.ensures _ _ c.before.before.before.before.before.before.before.before.before.before.before.before.before.before.before.set-row.ensures c.before.before.before.before.insert.ensures)
 
 pub add_spec : {M : Type 1} → statement M
 add_spec =

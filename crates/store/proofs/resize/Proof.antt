@@ -1,7 +1,7 @@
 -- `store::resize` meets its contract: a shrink makes the table anew along the new links, anything else leaves it.
 -- Assumes nothing.
 use borrow.Author.Rules.{rules}
-use Rattle.store.proofs.Resizing.{holds_resizable, shrunk-keyed, capped-shrunk, capped_stayed}
+use Rattle.store.proofs.Resizing.{holds_resizable, shrunk_keyed, capped_shrunk, capped_stayed}
 use Rattle.store.proofs.resize.Statement.{statement}
 use Rattle.store.proofs.resize.Tie as tie
 
@@ -12,7 +12,7 @@ resize-requires : tie.Need-resize-requires
 resize-requires c κs = holds_resizable c.before.before.before.before.before.before.before.before.before.before.before.before.before.before.before.before.requires
 
 rebuild-requires : tie.Need-rebuild-requires
-rebuild-requires c κs = shrunk-keyed c.before.before.before.before.before.before.before.before.before.before.before.before.before.before.before.before.before.before.before.before.before.before.before.before.before.before.before.before.before.before.before.before.before.before.before.before.requires _ _ _ _ _ c.before.before.before.before.before.before.before.before.before.before.before.before.before.before.before.before.before.before.before.resize.ensures c.before.before.before.before.if1.true
+rebuild-requires c κs = shrunk_keyed c.before.before.before.before.before.before.before.before.before.before.before.before.before.before.before.before.before.before.before.before.before.before.before.before.before.before.before.before.before.before.before.before.before.before.before.before.requires _ _ _ _ _ c.before.before.before.before.before.before.before.before.before.before.before.before.before.before.before.before.before.before.before.resize.ensures c.before.before.before.before.if1.true
 
 same_length : tie.Need-same-length
 same_length c = c.before.before.before.before.before.before.before.before.before.before.before.before.before.before.before.before.before.before.before.before.before.before.resize.auto.1.1.1.1.0
@@ -40,7 +40,7 @@ same-length-8 c = c.before.before.rebuild.auto.0
 
 returns : tie.Need-returns
 returns c =
-    capped-shrunk c.before.before.before.before.before.before.before.before.before.before.before.before.before.before.before.before.before.before.before.before.before.before.before.before.before.before.before.before.before.before.before.before.before.before.before.before.before.before.before.requires _ _ _ _ _ c.before.before.before.before.before.before.before.before.before.before.before.before.before.before.before.before.before.before.before.before.before.before.resize.ensures c.before.before.before.before.before.before.before.if1.true _ c.before.before.rebuild.ensures
+    capped_shrunk c.before.before.before.before.before.before.before.before.before.before.before.before.before.before.before.before.before.before.before.before.before.before.before.before.before.before.before.before.before.before.before.before.before.before.before.before.before.before.before.requires _ _ _ _ _ c.before.before.before.before.before.before.before.before.before.before.before.before.before.before.before.before.before.before.before.before.before.before.resize.ensures c.before.before.before.before.before.before.before.if1.true _ c.before.before.rebuild.ensures
 
 same-length-9 : tie.Need-same-length-9
 same-length-9 c = c.before.before.before.before.before.before.before.before.before.before.before.before.before.before.before.resize.auto.1.1.1.1.0

@@ -8,7 +8,7 @@ use lib.ListN.{length}
 use Rattle.crc.specs.Home.{home_of}
 use Rattle.head.specs.Walks.{walk}
 use Rattle.table.specs.Acts.{all_standing}
-use Rattle.table.proofs.Checked.{Asking, ask_start, ask_end, ask-coded, ask-no, ask-on}
+use Rattle.table.proofs.Checked.{Asking, ask_start, ask_end, ask_coded, ask_no, ask_on}
 use Rattle.table.proofs.all_stand.Statement.{statement}
 use Rattle.table.proofs.all_stand.Tie as tie
 
@@ -25,12 +25,12 @@ loop-holds c = let p = c.before.before.before.requires in ask_start _ _ p.0 p.1
 stands-requires : tie.Need-stands-requires invariant-loop decreases-loop
 stands-requires c κs =
     let v = c.before.loop.invariant in
-    record { table = v.table; coded = (ask-coded v c.loop-test.true).0 }
+    record { table = v.table; coded = (ask_coded v c.loop-test.true).0 }
 
 returns : tie.Need-returns invariant-loop decreases-loop
 returns c =
     let t = c.before.before in
-    ask-no t.before.loop.invariant t.loop-test.true c.before.stands.ensures (not-true _ c.if1.true)
+    ask_no t.before.loop.invariant t.loop-test.true c.before.stands.ensures (not-true _ c.if1.true)
 
 wide-requires : tie.Need-wide-requires invariant-loop decreases-loop
 wide-requires c κs = tt
@@ -39,7 +39,7 @@ wide-requires c κs = tt
 linked : (c : tie.After-wide invariant-loop decreases-loop) → c.wide.result < length c.before.before.before.before.before.before.before.before.args.next.now
 linked c =
     let t = c.before.before.before in
-    omega (arith, c.wide.ensures, (ask-coded t.before.loop.invariant t.loop-test.true).1)
+    omega (arith, c.wide.ensures, (ask_coded t.before.loop.invariant t.loop-test.true).1)
 
 mul-asked : tie.Need-overflow-mul-asked invariant-loop decreases-loop
 mul-asked c = omega (arith, linked c, c.before.before.before.before.before.before.before.before.well-formed)
@@ -57,7 +57,7 @@ loop-again : tie.Need-loop-preserved invariant-loop decreases-loop
 loop-again c =
     let e = c.before.before in
     let t = e.before.before in
-    ask-on t.before.loop.invariant t.loop-test.true e.before.stands.ensures (not-false _ e.if1.false) c.before.wide.ensures refl
+    ask_on t.before.loop.invariant t.loop-test.true e.before.stands.ensures (not-false _ e.if1.false) c.before.wide.ensures refl
 
 returns-2 : tie.Need-returns-2 invariant-loop decreases-loop
 returns-2 c = ask_end c.before.loop.invariant c.loop-test.false

@@ -7,7 +7,7 @@ use lib.ListN.{length}
 use Rattle.crc.specs.Home.{home_of}
 use Rattle.crc.proofs.Homes.{home_lt}
 use Rattle.head.specs.Walks.{walk}
-use Rattle.table.proofs.Renewal.{Renewing, renew_start, renew_end, renew-slotted, renew-linked, renew-on, renew_whole}
+use Rattle.table.proofs.Renewal.{Renewing, renew_start, renew_end, renew_slotted, renew_linked, renew_on, renew_whole}
 use Rattle.table.proofs.rebuild.Statement.{statement}
 use Rattle.table.proofs.rebuild.Tie as tie
 
@@ -31,7 +31,7 @@ hb : (c : Head) (k : ℕ) → home_of c.before.before.before.before.before.befor
 hb c k = home_lt (omega (arith, c.loop.invariant.keyed.listed.room)) k
 
 insert-requires : tie.Need-insert-requires invariant-loop decreases-loop
-insert-requires c κs = renew-slotted (hb c.before.before) c.before.before.loop.invariant c.before.loop-test.true
+insert-requires c κs = renew_slotted (hb c.before.before) c.before.before.loop.invariant c.before.loop-test.true
 
 wide-requires : tie.Need-wide-requires invariant-loop decreases-loop
 wide-requires c κs = tt
@@ -40,7 +40,7 @@ wide-requires c κs = tt
 read : (c : tie.After-wide invariant-loop decreases-loop) → c.wide.result < length c.before.before.before.before.before.before.before.before.before.before.before.before.before.before.args.next.now
 read c =
     let t = c.before.before.before.before.before in
-    omega (arith, c.wide.ensures, renew-linked (hb t.before) t.before.loop.invariant t.loop-test.true)
+    omega (arith, c.wide.ensures, renew_linked (hb t.before) t.before.loop.invariant t.loop-test.true)
 
 mul-slot : tie.Need-overflow-mul-slot invariant-loop decreases-loop
 mul-slot c = omega (arith, read c, c.before.before.before.before.before.before.before.before.before.before.before.before.before.before.well-formed)
@@ -57,7 +57,7 @@ loop-less c = omega (arith, c.before.before.before.before.before.before.loop-tes
 loop-again : tie.Need-loop-preserved invariant-loop decreases-loop
 loop-again c =
     let l = c.before.before.before.before.before.before.before in
-    renew-on (hb l) l.loop.invariant c.before.before.before.before.before.before.loop-test.true c.before.before.before.before.insert.ensures c.before.wide.ensures refl
+    renew_on (hb l) l.loop.invariant c.before.before.before.before.before.before.loop-test.true c.before.before.before.before.insert.ensures c.before.wide.ensures refl
 
 same_length : tie.Need-same-length invariant-loop decreases-loop
 same_length c = c.before.loop.invariant.tail.size ∙ c.before.before.before.before.clear.auto.0

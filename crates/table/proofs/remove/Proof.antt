@@ -9,7 +9,7 @@ use Rattle.crc.specs.Home.{home_of}
 use Rattle.crc.proofs.Homes.{home_lt}
 use Rattle.table.specs.Cells.{cell_after}
 use Rattle.table.proofs.Between.{far}
-use Rattle.table.proofs.Shift.{Shifting, gap_of, shift_start, at_d, has_code, test-is, shift-less, shift-stay, shift-move, shift_end}
+use Rattle.table.proofs.Shift.{Shifting, gap_of, shift_start, at_d, has_code, test_is, shift_less, shift_stay, shift_move, shift_end}
 use Rattle.table.proofs.remove.Statement.{statement}
 use Rattle.table.proofs.remove.Tie as tie
 
@@ -88,7 +88,7 @@ loop-less : tie.Need-loop-smaller invariant-loop decreases-loop
 loop-less c =
     let i1 = c.before.before.before.before.before.before in
     let l = i1.before.before in
-    shift-less (v l) (hb l) i1.if1.false c.before.before.after2.ensures
+    shift_less (v l) (hb l) i1.if1.false c.before.before.after2.ensures
 
 loop-again : tie.Need-loop-preserved invariant-loop decreases-loop
 loop-again c =
@@ -97,8 +97,8 @@ loop-again c =
     let l = w.before.before.before in
     let f = w.before.if1.false in (
       a.after2.ensures,
-      shift-move (v l) (hb l) f
-          (sym (test-is (v l) (hb l) f l.loop.invariant.0 w.wide.ensures a.before.home.ensures) ∙ sym c.before.on-way.ensures ∙ not-true _ c.if2.true)
+      shift_move (v l) (hb l) f
+          (sym (test_is (v l) (hb l) f l.loop.invariant.0 w.wide.ensures a.before.home.ensures) ∙ sym c.before.on-way.ensures ∙ not-true _ c.if2.true)
           a.after2.ensures,
     )
 
@@ -106,7 +106,7 @@ loop-less-2 : tie.Need-loop-smaller-2 invariant-loop decreases-loop
 loop-less-2 c =
     let i1 = c.before.before.before.before.before.before in
     let l = i1.before.before in
-    shift-less (v l) (hb l) i1.if1.false c.before.before.after2.ensures
+    shift_less (v l) (hb l) i1.if1.false c.before.before.after2.ensures
 
 loop-again-2 : tie.Need-loop-preserved-2 invariant-loop decreases-loop
 loop-again-2 c =
@@ -115,8 +115,8 @@ loop-again-2 c =
     let l = w.before.before.before in
     let f = w.before.if1.false in (
       l.loop.invariant.0,
-      shift-stay (v l) (hb l) f
-          (sym (test-is (v l) (hb l) f l.loop.invariant.0 w.wide.ensures a.before.home.ensures) ∙ sym c.before.on-way.ensures ∙ not-false _ c.if2.false)
+      shift_stay (v l) (hb l) f
+          (sym (test_is (v l) (hb l) f l.loop.invariant.0 w.wide.ensures a.before.home.ensures) ∙ sym c.before.on-way.ensures ∙ not-false _ c.if2.false)
           a.after2.ensures,
     )
 

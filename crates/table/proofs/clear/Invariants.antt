@@ -1,0 +1,23 @@
+-- `table::clear` meets its contract: a loop that fills from the front.
+-- Assumes nothing.
+use mathlib.Core.Path.{◌≡◌, refl, ap, ◌∙◌}
+use mathlib.Core.List.{List, ◌++◌}
+use Prim.Native.Nat.{ℕ, ◌+◌, ◌-◌, ◌≤◌, ◌<◌}
+use native.Mathlib.Omega.{arith}
+use borrow.Author.Fill.{fill_none, fill_more}
+use lib.ListN.{length, drop, set, replicate, length-set}
+use Rattle.head.specs.Bounds.{none_mark}
+use Rattle.table.proofs.clear.Given as goal
+
+-- the first i cells are empty
+record Filling (cells₀ cells : List ℕ) (m i : ℕ) : Type 0 where
+  wide : m ≤ length cells₀
+  i_le : i ≤ m
+  long : length cells ≡ length cells₀
+  so_far : cells ≡ replicate i none_mark ++ drop i cells₀
+
+abbrev pub invariant-loop-i : goal.invariant-loop-i
+invariant-loop-i l = Filling l.initial.cells l.cells l.m l.i
+
+abbrev pub decreases-loop-i : goal.decreases-loop-i
+decreases-loop-i l = l.m - l.i
