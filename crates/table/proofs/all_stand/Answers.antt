@@ -13,7 +13,7 @@ use Rattle.table.proofs.all_stand.Goals as goal
 use Rattle.table.proofs.all_stand.Goals.{After-wide-s}
 
 pub loop-i-init : goal.loop-i-init
-loop-i-init c = let p = c.requires in ask_start _ _ p.0 p.1
+loop-i-init c = let p = c.requires in ask_start _ _ p.gapped p.listed
 
 pub stands-requires : goal.stands-requires
 stands-requires c =

@@ -10,11 +10,11 @@ use Rattle.head.specs.Bounds.{none_mark}
 use Rattle.table.proofs.clear.Given as goal
 
 -- the first i cells are empty
-record Filling (cells₀ cells : List ℕ) (m i : ℕ) : Type 0 where
-  wide : m ≤ length cells₀
-  i_le : i ≤ m
-  long : length cells ≡ length cells₀
-  so_far : cells ≡ replicate i none_mark ++ drop i cells₀
+pub record Filling (cells₀ cells : List ℕ) (m i : ℕ) : Type 0 where
+  pub wide : m ≤ length cells₀
+  pub i_le : i ≤ m
+  pub long : length cells ≡ length cells₀
+  pub so_far : cells ≡ replicate i none_mark ++ drop i cells₀
 
 abbrev pub invariant-loop-i : goal.invariant-loop-i
 invariant-loop-i l = Filling l.initial.cells l.cells l.m l.i

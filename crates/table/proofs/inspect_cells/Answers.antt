@@ -20,7 +20,7 @@ pub returns-then-not-as_many : goal.returns-then-not-as_many
 returns-then-not-as_many c = inspect_count (hb (goal.at.returns-then-not-as_many c).Start) c.requires (walk_length _ _ _) (sym c.as_many.ensures ∙ c.if-not-as_many.true)
 
 pub all_stand-requires : goal.all_stand-requires
-all_stand-requires c = (tallied_open (hb (goal.at.all_stand-requires c).Start) c.requires (inspect_passed (hb (goal.at.all_stand-requires c).Start) c.requires (walk_length _ _ _) (sym c.as_many.ensures ∙ c.if-not-as_many.false)), c.requires)
+all_stand-requires c = record { gapped = tallied_open (hb (goal.at.all_stand-requires c).Start) c.requires (inspect_passed (hb (goal.at.all_stand-requires c).Start) c.requires (walk_length _ _ _) (sym c.as_many.ensures ∙ c.if-not-as_many.false)); listed = c.requires }
 
 pub returns : goal.returns
 returns c = inspect_rest (hb (goal.at.returns c).Start) c.requires (inspect_passed (hb (goal.at.returns c).Start) c.requires (walk_length _ _ _) (sym c.as_many.ensures ∙ c.if-not-as_many.false)) c.all_stand.ensures

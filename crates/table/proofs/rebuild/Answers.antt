@@ -27,7 +27,7 @@ insert-requires c = renew_slotted (hb (goal.at.insert-requires c).At-loop-i) c.l
 -- the slot has a link
 read : (c : After-wide-s) → c.wide-s.result < length c.args.next.now
 read c =
-    omega (arith, c.wide-s.ensures, renew_linked (hb c.before.before.before.before.before.before) c.loop-i.invariant c.loop-i-test.true)
+    omega (arith, c.wide-s.ensures, renew_linked (home_lt (omega (arith, c.loop-i.invariant.keyed.listed.room))) c.loop-i.invariant c.loop-i-test.true)
 
 pub offset_bounds-next-s : goal.offset_bounds-next-s
 offset_bounds-next-s c = omega (arith, read (goal.at.offset_bounds-next-s c).After-wide-s)

@@ -44,7 +44,7 @@ bounds-cells-at c = at_d (v (goal.at.bounds-cells-at c).At-loop-slot) (hb (goal.
 
 coded : (c : After-wide-s) → c.wide-s.result < length c.args.codes.now
 coded c =
-    omega (arith, c.wide-s.ensures, has_code (v c.before.before.before) (hb c.before.before.before) c.if-slot.false)
+    omega (arith, c.wide-s.ensures, has_code c.loop-slot.invariant.1 (home_lt (omega (arith, c.loop-slot.invariant.1.at_in))) c.if-slot.false)
 
 pub offset_bounds-codes-s : goal.offset_bounds-codes-s
 offset_bounds-codes-s c = omega (arith, coded (goal.at.offset_bounds-codes-s c).After-wide-s)

@@ -26,7 +26,7 @@ held : (c : In-Found)
     → Holding (home_of c.args.n) (2 * c.args.n) c.args.cells.now c.args.codes.now c.in-Found.cell
     × (get_or c.args.cells.now c.in-Found.cell 0 ≡ c.args.slot.0)
 held c =
-    live_holding (hb c.before.before.before.before.before.before.before.before) c.requires.sound c.requires.live
+    live_holding (home_lt (omega (arith, c.requires.sound.room))) c.requires.sound c.requires.live
     (seen (home_of c.args.n) (2 * c.args.n) c.args.cells.now c.args.codes.now c.in-Found.is c.look.ensures c.wide-s.ensures)
 
 pub bounds-codes-s : goal.bounds-codes-s

@@ -1,0 +1,8 @@
+-- `layout::put_answer` meets its contract.
+-- Assumes nothing.
+use borrow.Author.Rules.{rules}
+use Rattle.layout.proofs.Laid.{answered}
+use Rattle.layout.proofs.put_answer.Goals as goal
+
+pub returns : goal.returns
+returns c = answered c.args.list.now c.args.answer c.Numbers-of.result c.Numbers-of.ensures c.put_numbers.ensures
