@@ -1,7 +1,7 @@
 -- What compacting a list of slots needs and leaves.
 -- Assumes nothing.
 use Rattle.std.specs.Prelude.{ℕ, ◌-◌, ◌≤◌, ◌<◌, min, ◌≡◌, List, [], ◌++◌, length, get_or, take, drop}
-use Rattle.std.specs.Borrow.{Bor}
+use Rattle.std.specs.Borrow.{MutBor}
 use denote.Triple.Both.{Both}
 use Rattle.head.specs.declared.Head.{Head}
 use Rattle.head.specs.Bounds.{most_slots}
@@ -17,12 +17,12 @@ use Rattle.compact.specs.Anew.{NextOf, PrevOf, StackOf, Filled}
 use Rattle.head.specs.Fields.{Fields, Reach}
 
 -- four lent lists as they stand
-abbrev pub fields : Bor (List ℕ) → Bor (List ℕ) → Bor (List ℕ) → Bor (List ℕ) → Fields
+abbrev pub fields : MutBor (List ℕ) → MutBor (List ℕ) → MutBor (List ℕ) → MutBor (List ℕ) → Fields
 fields c s v w = record { codes = c.now; stamps = s.now; values = v.now; weights = w.now }
 
 -- a lent list before and after a call
 abbrev pub Over : Type 0
-Over = Both (Bor (List ℕ)) (Bor (List ℕ))
+Over = Both (MutBor (List ℕ)) (MutBor (List ℕ))
 
 -- as the call found them
 abbrev pub fields₀ : Over → Over → Over → Over → Fields

@@ -14,4 +14,4 @@ returns-then-d-eq0 c =
 pub returns : goal.returns
 returns c =
     let z : c.args.head.depth.0 ≡ 0 → ⊥ = omega arith in
-    given_pop _ _ _ _ z c.at_s.ensures c.put.ensures
+    given_pop _ _ _ _ z c.at-s.ensures c.put.ensures

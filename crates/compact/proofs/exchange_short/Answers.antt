@@ -1,0 +1,31 @@
+-- `compact::exchange_short` meets its contract. As `exchange`, by the same laws.
+-- Assumes nothing.
+use Prim.Native.Nat.{◌-◌}
+use native.Mathlib.Omega.{arith}
+use borrow.Author.Rules.{rules}
+use Rattle.compact.proofs.Rows.{Midway, midway_first, midway_step, midway_last}
+use Rattle.compact.proofs.exchange_short.Goals as goal
+
+pub loop-i-init : goal.loop-i-init
+loop-i-init c = midway_first _ _ _
+
+pub overflow_cast-s : goal.overflow_cast-s
+overflow_cast-s c = omega arith
+
+pub bounds-row-i : goal.bounds-row-i
+bounds-row-i c = omega arith
+
+pub swap_short-requires : goal.swap_short-requires
+swap_short-requires c = let inv = c.loop-i.invariant in let pre = c.requires in (omega (arith, inv.size, pre.few), omega (arith, inv.size, pre.each c.loop-i.i (omega arith)))
+
+pub overflow_add-i : goal.overflow_add-i
+overflow_add-i c = omega arith
+
+pub loop-i-smaller : goal.loop-i-smaller
+loop-i-smaller c = omega arith
+
+pub loop-i-preserved : goal.loop-i-preserved
+loop-i-preserved c = midway_step _ _ _ _ _ _ c.requires.row c.loop-i.invariant c.loop-i-test.true c.swap_short.ensures
+
+pub returns : goal.returns
+returns c = midway_last _ _ _ _ _ c.requires.row c.loop-i.invariant c.loop-i-test.false
