@@ -1,0 +1,17 @@
+-- `inspect::rest_blank` meets its contract. The invariant: the whole test is the test from here on. The measure: slots not tested yet.
+-- Assumes nothing.
+use Prim.Native.Nat.{◌≤◌, ◌-◌}
+use mathlib.Core.Path.{◌≡◌, ◌∙◌, sym, refl}
+use native.Mathlib.Omega.{arith}
+use borrow.Author.Tests.{not-true, not-false}
+use Rattle.list.specs.Inspect.{all_from}
+use Rattle.list.proofs.Tests.{all_fail, all_more, all_end}
+use Rattle.store.specs.State.{fields}
+use Rattle.inspect.specs.Tests.{blank_at}
+use Rattle.inspect.proofs.rest_blank.Given as goal
+
+abbrev pub invariant-loop-k : goal.invariant-loop-k
+invariant-loop-k l = (l.k ≤ l.n) × (all_from (l.n - l.top) l.top (blank_at (fields l.codes l.stamps l.values l.weights)) ≡ all_from (l.n - l.k) l.k (blank_at (fields l.codes l.stamps l.values l.weights)))
+
+abbrev pub decreases-loop-k : goal.decreases-loop-k
+decreases-loop-k l = l.n - l.k

@@ -1,0 +1,17 @@
+-- `inspect::table_ok` meets its contract. The invariant: the whole test is the test from here on. The measure: slots not tested yet.
+-- Assumes nothing.
+use Prim.Native.Nat.{◌≤◌, ◌-◌, ◌*◌}
+use mathlib.Core.Path.{◌≡◌, ◌∙◌, sym}
+use native.Mathlib.Omega.{arith}
+use borrow.Author.Tests.{not-true, not-false}
+use Rattle.crc.specs.Home.{home_of}
+use Rattle.list.specs.Inspect.{all_from}
+use Rattle.list.proofs.Tests.{all_fail, all_more, all_end, all_start}
+use Rattle.inspect.specs.Tests.{used_stands}
+use Rattle.inspect.proofs.table_ok.Given as goal
+
+abbrev pub invariant-loop-k : goal.invariant-loop-k
+invariant-loop-k l = (l.k ≤ l.top) × (all_from l.top 0 (used_stands (home_of l.n) (2 * l.n) l.cells l.codes l.next) ≡ all_from (l.top - l.k) l.k (used_stands (home_of l.n) (2 * l.n) l.cells l.codes l.next))
+
+abbrev pub decreases-loop-k : goal.decreases-loop-k
+decreases-loop-k l = l.top - l.k

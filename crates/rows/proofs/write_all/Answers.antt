@@ -1,0 +1,11 @@
+-- `rows::write_all` meets its contract: the rule that keeps none removes all.
+-- Assumes nothing.
+use Rattle.rows.proofs.Listing.{no_stamp_lem, all_swept, all_wrote}
+use borrow.Author.Rules.{rules}
+use Rattle.rows.proofs.write_all.Goals as goal
+
+pub write_removed-requires : goal.write_removed-requires
+write_removed-requires c = all_swept _ (no_stamp_lem _ _ c.stamp-any.ensures c.negated-none.ensures) c.requires
+
+pub returns : goal.returns
+returns c = all_wrote _ (no_stamp_lem _ _ c.stamp-any.ensures c.negated-none.ensures) c.write_removed.ensures
