@@ -8,7 +8,7 @@ use Rattle.inspect.proofs.Ends.{Meeting, apart, far_a, far_b, loose_a, loose_b, 
 use Rattle.inspect.proofs.meets.Goals as goal
 
 pub loop-left-init : goal.loop-left-init
-loop-left-init c = (omega arith, apart _ _ _ _ c.requires.1.0 c.requires.1.1 c.requires.1.2)
+loop-left-init c = (omega arith, apart _ _ _ _ c.requires.a_lt_top.0 c.requires.a_lt_top.1 c.requires.a_lt_top.2)
 
 pub overflow_cast-q : goal.overflow_cast-q
 overflow_cast-q c = omega arith

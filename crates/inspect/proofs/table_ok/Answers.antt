@@ -14,7 +14,7 @@ pub loop-k-init : goal.loop-k-init
 loop-k-init c = (omega arith, all_start _ _)
 
 pub used_stands-requires : goal.used_stands-requires
-used_stands-requires c = (c.requires.0, (omega arith, omega arith, omega arith))
+used_stands-requires c = record { gapped = c.requires.gapped; s_in_bounds = (omega arith, omega arith, omega arith) }
 
 pub returns-then-not-used_stands : goal.returns-then-not-used_stands
 returns-then-not-used_stands c = sym (c.loop-k.invariant.1 ∙ all_fail _ _ _ c.loop-k-test.true (sym c.used_stands.ensures ∙ c.if-not-used_stands.true))

@@ -39,7 +39,7 @@ pub overflow_sub-more : goal.overflow_sub-more
 overflow_sub-more c = omega arith
 
 pub meets-requires : goal.meets-requires
-meets-requires c = ((omega arith, omega arith), (c.if-top-front.false, c.if-top-back.false, c.if-next-back.false))
+meets-requires c = record { top_in_bounds = (omega arith, omega arith); a_lt_top = (c.if-top-front.false, c.if-top-back.false, c.if-next-back.false) }
 
 pub returns : goal.returns
 returns c = c.meets.ensures ∙ sym (behind_front _ _ _ _ _ _ (omega (arith, c.if-live-eq0.false)) c.if-top-front.false c.if-prev-front.false)
