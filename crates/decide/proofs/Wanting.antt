@@ -20,51 +20,47 @@ use Rattle.decide.specs.Wants.{wanted_by, search_for}
 pub wanted_as : {m n : Command} {w : Wanted} → m ≡ n → w ≡ wanted_by n → w ≡ wanted_by m
 wanted_as e q = rw e q
 
--- ---- the commands that look for no code, by their places in the enum
+-- ---- the commands that look for no code: all but ten
 
-abbrev among : List ℕ → ℕ → Bool
-among [] x = false
-among (j ∷ js) x = eqb x j || among js x
-
-one_among : (j : ℕ) (js : List ℕ) (x : ℕ) → OneOf (j ∷ js) x → among (j ∷ js) x ≡ true
-one_among j [] x o = rw (eq-eqb x j o) refl
-one_among j (i ∷ js) x o =
-    ⊎_elim (λ q. rw (eq-eqb x j q) refl) (λ r. split (eqb x j) (λ t. rw t refl) (λ t. rw t (one_among i js x r))) o
-
-abbrev others : List ℕ
-others = 1 ∷ 2 ∷ 3 ∷ 4 ∷ 5 ∷ 6 ∷ 9 ∷ 10 ∷ 13 ∷ 14 ∷ 17 ∷ 18 ∷ 19 ∷ 24 ∷ 25 ∷ []
-
-none : (m : Command) → among (0 ∷ others) (tag_of the_type m) ≡ true → Nothing ≡ wanted_by m
+pub none_wanted : (m : Command)
+    → ((k : Code) → m ≡ Peek k → ⊥)
+    → ((k : Code) → m ≡ Contains k → ⊥)
+    → ((k : Code) → m ≡ Get k → ⊥)
+    → ((k : Code) → m ≡ Pop k → ⊥)
+    → ((k : Code) (a : ℕ) (b : ℕ) → m ≡ Put k a b → ⊥)
+    → ((k : Code) (a : ℕ) (b : ℕ) (d : ℕ) → m ≡ PutWithWeight k a b d → ⊥)
+    → ((k : Code) (a : ℕ) (b : ℕ) → m ≡ PutOrModify k a b → ⊥)
+    → ((k : Code) (a : ℕ) (b : ℕ) (d : ℕ) → m ≡ TryPutOrModify k a b d → ⊥)
+    → ((k : Code) (a : ℕ) → m ≡ GetMut k a → ⊥)
+    → ((k : Code) (a : ℕ) → m ≡ PeekMut k a → ⊥)
+    → Nothing ≡ wanted_by m
 unfolding wanted_by
-none Len o = refl
-none Capacity o = refl
-none Weight o = refl
-none IsEmpty o = refl
-none IsFull o = refl
-none Front o = refl
-none Back o = refl
-none (Peek c) o = absurd (false≢true o)
-none (Contains c) o = absurd (false≢true o)
-none ListFront o = refl
-none ListBack o = refl
-none (Get c) o = absurd (false≢true o)
-none (Pop c) o = absurd (false≢true o)
-none PopFront o = refl
-none PopBack o = refl
-none (Put c s v) o = absurd (false≢true o)
-none (PutWithWeight c s v w) o = absurd (false≢true o)
-none Clear o = refl
-none (Retain q) o = refl
-none (Resize c) o = refl
-none (PutOrModify c s n) o = absurd (false≢true o)
-none (TryPutOrModify c s n most) o = absurd (false≢true o)
-none (GetMut c v) o = absurd (false≢true o)
-none (PeekMut c v) o = absurd (false≢true o)
-none (FrontMut v) o = refl
-none (BackMut v) o = refl
-
-pub none_wanted : (m : Command) → OneOf (0 ∷ others) (tag_of the_type m) → Nothing ≡ wanted_by m
-none_wanted m o = none m (one_among 0 others (tag_of the_type m) o)
+none_wanted Len n0 n1 n2 n3 n4 n5 n6 n7 n8 n9 = refl
+none_wanted Capacity n0 n1 n2 n3 n4 n5 n6 n7 n8 n9 = refl
+none_wanted Weight n0 n1 n2 n3 n4 n5 n6 n7 n8 n9 = refl
+none_wanted IsEmpty n0 n1 n2 n3 n4 n5 n6 n7 n8 n9 = refl
+none_wanted IsFull n0 n1 n2 n3 n4 n5 n6 n7 n8 n9 = refl
+none_wanted Front n0 n1 n2 n3 n4 n5 n6 n7 n8 n9 = refl
+none_wanted Back n0 n1 n2 n3 n4 n5 n6 n7 n8 n9 = refl
+none_wanted (Peek k) n0 n1 n2 n3 n4 n5 n6 n7 n8 n9 = absurd (n0 k refl)
+none_wanted (Contains k) n0 n1 n2 n3 n4 n5 n6 n7 n8 n9 = absurd (n1 k refl)
+none_wanted ListFront n0 n1 n2 n3 n4 n5 n6 n7 n8 n9 = refl
+none_wanted ListBack n0 n1 n2 n3 n4 n5 n6 n7 n8 n9 = refl
+none_wanted (Get k) n0 n1 n2 n3 n4 n5 n6 n7 n8 n9 = absurd (n2 k refl)
+none_wanted (Pop k) n0 n1 n2 n3 n4 n5 n6 n7 n8 n9 = absurd (n3 k refl)
+none_wanted PopFront n0 n1 n2 n3 n4 n5 n6 n7 n8 n9 = refl
+none_wanted PopBack n0 n1 n2 n3 n4 n5 n6 n7 n8 n9 = refl
+none_wanted (Put k a b) n0 n1 n2 n3 n4 n5 n6 n7 n8 n9 = absurd (n4 k a b refl)
+none_wanted (PutWithWeight k a b d) n0 n1 n2 n3 n4 n5 n6 n7 n8 n9 = absurd (n5 k a b d refl)
+none_wanted Clear n0 n1 n2 n3 n4 n5 n6 n7 n8 n9 = refl
+none_wanted (Retain x) n0 n1 n2 n3 n4 n5 n6 n7 n8 n9 = refl
+none_wanted (Resize x) n0 n1 n2 n3 n4 n5 n6 n7 n8 n9 = refl
+none_wanted (PutOrModify k a b) n0 n1 n2 n3 n4 n5 n6 n7 n8 n9 = absurd (n6 k a b refl)
+none_wanted (TryPutOrModify k a b d) n0 n1 n2 n3 n4 n5 n6 n7 n8 n9 = absurd (n7 k a b d refl)
+none_wanted (GetMut k a) n0 n1 n2 n3 n4 n5 n6 n7 n8 n9 = absurd (n8 k a refl)
+none_wanted (PeekMut k a) n0 n1 n2 n3 n4 n5 n6 n7 n8 n9 = absurd (n9 k a refl)
+none_wanted (FrontMut x) n0 n1 n2 n3 n4 n5 n6 n7 n8 n9 = refl
+none_wanted (BackMut x) n0 n1 n2 n3 n4 n5 n6 n7 n8 n9 = refl
 
 -- ---- the search
 

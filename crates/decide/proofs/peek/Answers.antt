@@ -1,0 +1,15 @@
+-- `decide::peek` meets its contract.
+-- Assumes nothing.
+use Rattle.decide.proofs.Pointing.{found_reached}
+use Rattle.decide.proofs.Finding.{says, if_absent, peek_found}
+use Rattle.std.proofs.Common.{rules}
+use Rattle.decide.proofs.peek.Goals as goal
+
+pub returns-in_default : goal.returns-in_default
+returns-in_default c = λ h code lent. if_absent lent _ _ c.in_default.is (says _ lent c.say.ensures)
+
+pub bounds-values-i : goal.bounds-values-i
+bounds-values-i c = found_reached _ c.requires c.in-Found.is
+
+pub returns : goal.returns
+returns c = λ h code lent. peek_found lent c.in-Found.is c.say-2.ensures

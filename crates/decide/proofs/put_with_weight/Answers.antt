@@ -1,0 +1,35 @@
+-- `decide::put_with_weight` meets its contract.
+-- Assumes nothing.
+use Rattle.decide.proofs.Pointing.{reaches, found_reached}
+use Rattle.decide.proofs.Weighing.{loaded_budgeted, loaded_but, wrong_kind_lem, too_heavy_lem, weighed_none, weighed_found}
+use Rattle.std.proofs.Common.{rules}
+use Rattle.decide.proofs.put_with_weight.Goals as goal
+
+pub returns-then-wrong_weight : goal.returns-then-wrong_weight
+returns-then-wrong_weight c =
+    let a = c.args in
+    wrong_kind_lem a.row a.room c.wrong_weight.ensures c.if-wrong_weight.true c.refuse.ensures
+
+pub returns-then-head-row : goal.returns-then-head-row
+returns-then-head-row c =
+    let a = c.args in
+    too_heavy_lem a.row a.room c.wrong_weight.ensures c.if-wrong_weight.false c.if-head-row.true c.refuse-then-head-row.ensures
+
+pub leaving-k-requires : goal.leaving-k-requires
+leaving-k-requires c = loaded_budgeted c.args.row c.requires
+
+pub returns-in_default : goal.returns-in_default
+returns-in_default c =
+    let a = c.args in
+    weighed_none a.row a.room c.wrong_weight.ensures c.if-wrong_weight.false c.if-head-row.false c.in_default.is c.leaving-k.ensures c.admit.ensures
+
+pub leaving-k-requires-2 : goal.leaving-k-requires-2
+leaving-k-requires-2 c = loaded_but c.args.row c.in-Found.is c.requires
+
+pub bounds-values-i : goal.bounds-values-i
+bounds-values-i c = found_reached _ (reaches _ c.requires.seen.searched) c.in-Found.is
+
+pub returns : goal.returns
+returns c =
+    let a = c.args in
+    weighed_found a.row a.room c.wrong_weight.ensures c.if-wrong_weight.false c.if-head-row.false c.in-Found.is c.leaving-k-2.ensures c.within.ensures

@@ -1,0 +1,15 @@
+-- `decide::seek` meets its contract.
+-- Assumes nothing.
+use Rattle.decide.proofs.Wanting.{nothing_sought, code_sought}
+use Rattle.std.proofs.Common.{rules}
+use Rattle.decide.proofs.seek.Goals as goal
+
+pub returns-in_default : goal.returns-in_default
+returns-in_default c =
+    let a = c.args in
+    nothing_sought a.command a.head.slots a.cells.now a.codes.now c.wanted_by.ensures c.in_default.is
+
+pub returns : goal.returns
+returns c =
+    let a = c.args in
+    code_sought a.command a.head.slots a.cells.now a.codes.now c.wanted_by.ensures c.in-For.is c.look.ensures
