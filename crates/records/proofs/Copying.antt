@@ -1,4 +1,4 @@
--- What the walk of `save` cites: how long the records stay, what each answer says, and what the test has shown.
+-- How long the records stay, what each answer says, and what the test has shown.
 -- Assumes nothing.
 use Prim.Native.Nat.{ℕ, zero, suc, ◌≤◌}
 use mathlib.Core.Bool.{Bool, true, false, not, ◌&&◌}

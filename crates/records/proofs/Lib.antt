@@ -1,4 +1,3 @@
 pub mod Copying
 pub mod Cutting
 pub mod Recording
-pub mod Relending
