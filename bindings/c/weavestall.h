@@ -1,6 +1,6 @@
 /* The claims cache for C: opening, the calls that read, and every call.
  *
- * Link target/staticlib/libexports.a, which `rt staticlib exports` writes (x86-64 Linux).
+ * Link target/staticlib/libexports.a, which bindings/library makes (x86-64 Linux).
  *
  * A list is a pointer and a length. The pointer is aligned and not null even where the length is 0, and no list that is
  * written overlaps another list of the same call. Nothing else is asked: numbers may be damaged and lists short, and the

@@ -1,7 +1,7 @@
 //! Links the proved library `libexports.a`.
 //!
 //! It is looked for in the folder that WEAVESTALL_LIB names, else in target/staticlib of the repository. Where it is
-//! not there yet, `rt staticlib exports` makes it, which needs the Rattle kit.
+//! not there yet, bindings/library makes it, which needs the Rattle kit.
 
 use std::path::{Path, PathBuf};
 use std::process::Command;
@@ -21,7 +21,7 @@ fn main() {
     let archive = folder.join("libexports.a");
     assert!(
         archive.is_file(),
-        "there is no {}: run `rt staticlib exports` in the repository, or set WEAVESTALL_LIB to the folder that has it",
+        "there is no {}: run bindings/library in the repository, or set WEAVESTALL_LIB to the folder that has it",
         archive.display()
     );
     println!("cargo:rerun-if-changed={}", archive.display());
@@ -32,12 +32,9 @@ fn main() {
 fn made(root: &Path) -> PathBuf {
     let folder = root.join("target/staticlib");
     if !folder.join("libexports.a").is_file() {
-        let outcome = Command::new("rt")
-            .args(["staticlib", "exports"])
-            .current_dir(root)
-            .status();
+        let outcome = Command::new(root.join("bindings/library")).status();
         if let Err(error) = outcome {
-            println!("cargo:warning=rt staticlib exports did not start: {error}");
+            println!("cargo:warning=bindings/library did not start: {error}");
         }
     }
     folder
