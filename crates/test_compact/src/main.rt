@@ -3,7 +3,7 @@
 #![tactic(auto)]
 
 ghost use Rattle.std.specs.Prelude.{◌≡◌, true};
-ghost use Rattle.compact.specs.Compact.{fields₀, Resizable};
+ghost use Rattle.compact.specs.Compact.{Resizable};
 
 use head::{Code, Head, Row};
 use std::io;
@@ -169,7 +169,7 @@ fn ready(
     weights: &[u64],
     capacity: u64,
 ) -> bool
-    ensures { result ≡ true → Resizable head next.now prev.now stack.now (fields₀ codes stamps values weights) capacity }
+    ensures { result ≡ true → Resizable head next.now prev.now stack.now (record { codes = codes.now; stamps = stamps.now; values = values.now; weights = weights.now }) capacity }
 {
     let n = head.slots as usize;
     if codes.len() < n {
