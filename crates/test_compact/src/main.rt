@@ -3,9 +3,10 @@
 #![tactic(auto)]
 
 ghost use Rattle.std.specs.Prelude.{◌≡◌, true};
-ghost use Rattle.compact.specs.Compact.{fields₀, Resizable};
+ghost use Rattle.compact.specs.Compact.{Resizable};
 
 use head::{Code, Head, Row};
+use std::io;
 use test_kit::line::Order;
 use test_kit::links::Links;
 use test_kit::{draw, line, more, narrow, pick, say};
@@ -168,7 +169,7 @@ fn ready(
     weights: &[u64],
     capacity: u64,
 ) -> bool
-    ensures { result ≡ true → Resizable head next.now prev.now stack.now (fields₀ codes stamps values weights) capacity }
+    ensures { result ≡ true → Resizable head next.now prev.now stack.now (record { codes = codes.now; stamps = stamps.now; values = values.now; weights = weights.now }) capacity }
 {
     let n = head.slots as usize;
     if codes.len() < n {
@@ -488,28 +489,28 @@ fn run(turns: u64) -> [u64; 7] {
 }
 
 // How many turns only moved entries.
-fn tell_entries(tally: [u64; 7]) {
-    say(b"push", tally[0]);
-    say(b"remove", tally[1]);
-    say(b"evict", tally[2]);
+fn tell_entries(rt: &impl Print, tally: [u64; 7]) -> io::Result<()> {
+    say(rt, b"push", tally[0])?;
+    say(rt, b"remove", tally[1])?;
+    say(rt, b"evict", tally[2])
 }
 
 // How many set the capacity.
-fn tell_capacities(tally: [u64; 7]) {
-    say(b"shrink", tally[3]);
-    say(b"equal", tally[4]);
-    say(b"grow", tally[5]);
+fn tell_capacities(rt: &impl Print, tally: [u64; 7]) -> io::Result<()> {
+    say(rt, b"shrink", tally[3])?;
+    say(rt, b"equal", tally[4])?;
+    say(rt, b"grow", tally[5])
 }
 
 // The whole, and what it came to.
-pub fn drive(turns: u64) {
+pub fn drive(rt: &impl Print, turns: u64) -> io::Result<()> {
     let tally = run(turns);
-    tell_entries(tally);
-    tell_capacities(tally);
-    say(b"agreed", tally[6]);
+    tell_entries(rt, tally)?;
+    tell_capacities(rt, tally)?;
+    say(rt, b"agreed", tally[6])
 }
 
 // The long run: 20,000 turns.
-fn main() {
-    drive(20000);
+fn main(rt: HostRuntime) -> io::Result<()> {
+    drive(&rt, 20000)
 }

@@ -1,7 +1,7 @@
 // What the programs that drive the layers share: reads and stores that stay inside, numbers that wrap, draws, and a line of output.
 #![tactic(auto)]
 
-use libc::STDOUT_FILENO;
+use std::io;
 
 pub mod line;
 pub mod links;
@@ -32,17 +32,17 @@ pub fn narrow(x: u64) -> u32 {
 
 // Sums and differences, past the largest number from 0 on.
 pub fn plus(x: u64, y: u64) -> u64 {
-    std::num::wrapping_add_u64(x, y)
+    x.wrapping_add(y)
 }
 
 // One more.
 pub fn more(x: u64) -> u64 {
-    std::num::wrapping_add_u64(x, 1)
+    x.wrapping_add(1)
 }
 
 // One less.
 pub fn less(x: u64) -> u64 {
-    std::num::wrapping_sub_u64(x, 1)
+    x.wrapping_sub(1)
 }
 
 // 1 for yes, 0 for no.
@@ -68,9 +68,7 @@ pub fn shaken(seed: u64) -> u64 {
 }
 
 // A line of output: a name and a count.
-pub fn say(name: &[u8], n: u64) {
-    io::write_all(STDOUT_FILENO, name);
-    io::write_all(STDOUT_FILENO, b" ");
-    io::print_decimal(STDOUT_FILENO, n);
-    io::write_all(STDOUT_FILENO, b"\n");
+pub fn say(rt: &impl Print, name: &[u8], n: u64) -> io::Result<()> {
+    rt.write_all(name)?;
+    println!(rt; " {n}")
 }

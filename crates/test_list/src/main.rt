@@ -2,6 +2,7 @@
 #![tactic(auto)]
 
 use head::Head;
+use std::io;
 use test_kit::line::Order;
 use test_kit::links::Links;
 use test_kit::{draw, line, links, more, pick, say};
@@ -154,17 +155,17 @@ fn run(turns: u64) -> [u64; 6] {
 }
 
 // The whole, and what it came to.
-pub fn drive(turns: u64) {
+pub fn drive(rt: &impl Print, turns: u64) -> io::Result<()> {
     let tally = run(turns);
-    say(b"push", tally[0]);
-    say(b"remove", tally[1]);
-    say(b"move", tally[2]);
-    say(b"evict", tally[3]);
-    say(b"clear", tally[4]);
-    say(b"agreed", tally[5]);
+    say(rt, b"push", tally[0])?;
+    say(rt, b"remove", tally[1])?;
+    say(rt, b"move", tally[2])?;
+    say(rt, b"evict", tally[3])?;
+    say(rt, b"clear", tally[4])?;
+    say(rt, b"agreed", tally[5])
 }
 
 // The long run: 20,000 turns.
-fn main() {
-    drive(20000);
+fn main(rt: HostRuntime) -> io::Result<()> {
+    drive(&rt, 20000)
 }

@@ -8,6 +8,7 @@ ghost use Rattle.head.specs.Walks.{walk};
 ghost use Rattle.test_table.specs.Tests.{Proper, Ready};
 
 use head::{Code, Head, Slot};
+use std::io;
 use table::Search;
 use test_kit::{more, say, shaken};
 
@@ -468,38 +469,40 @@ fn rounds(k: usize) -> Run {
 }
 
 // How many searches there were.
-fn tell_searches(counts: [u64; 8]) {
+fn tell_searches(rt: &impl Print, counts: [u64; 8]) -> io::Result<()> {
     say(
+        rt,
         b"found where the scan finds, count within live + 1",
         counts[0],
-    );
+    )?;
     say(
+        rt,
         b"absent where the scan finds nothing, count within live + 1",
         counts[1],
-    );
+    )
 }
 
 // How many acts there were.
-fn tell_acts(counts: [u64; 8]) {
-    say(b"inserted", counts[2]);
-    say(b"removed", counts[3]);
-    say(b"cleared", counts[4]);
-    say(b"rebuilt", counts[5]);
+fn tell_acts(rt: &impl Print, counts: [u64; 8]) -> io::Result<()> {
+    say(rt, b"inserted", counts[2])?;
+    say(rt, b"removed", counts[3])?;
+    say(rt, b"cleared", counts[4])?;
+    say(rt, b"rebuilt", counts[5])
 }
 
 // Runs k rounds, and writes how they went.
-pub fn drive(k: usize) {
+pub fn drive(rt: &impl Print, k: usize) -> io::Result<()> {
     let r = rounds(k);
     let counts = r.counts;
     let table = r.table;
-    say(b"rounds", k as u64);
-    tell_searches(counts);
-    tell_acts(counts);
-    say(b"left with links", table.live as u64);
-    say(b"unsound or different", counts[6]);
+    say(rt, b"rounds", k as u64)?;
+    tell_searches(rt, counts)?;
+    tell_acts(rt, counts)?;
+    say(rt, b"left with links", table.live as u64)?;
+    say(rt, b"unsound or different", counts[6])
 }
 
 // The long run: 20,000 rounds.
-fn main() {
-    drive(20000);
+fn main(rt: HostRuntime) -> io::Result<()> {
+    drive(&rt, 20000)
 }
