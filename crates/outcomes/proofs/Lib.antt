@@ -3,6 +3,7 @@ pub mod Same
 pub mod Public
 pub mod Counted
 pub mod Untouched
+pub mod Ceiling
 pub mod Sampled
 pub mod Ruled
 pub mod WrongReads

@@ -8,11 +8,10 @@ use mathlib.Core.Path.{◌≡◌, refl, sym, ap, ◌∙◌, subst}
 use native.Mathlib.Omega.{arith}
 use lib.Dec.{eqb, leb, ltb}
 use Rattle.head.specs.declared.Row.{Row}
-use Rattle.head.specs.declared.Code.{Code}
 use Rattle.head.specs.declared.Answer.{Answer}
 use Rattle.head.specs.declared.Answer.TheVariants.{No, New, Was, Is, Now, Absent, Entry, Done, Count, Flag}
 use Rattle.head.specs.declared.Refusal.{Refusal}
-use Rattle.head.specs.declared.Refusal.TheVariants.{WrongKind, TooFewRows, OverCeiling, NoSlot}
+use Rattle.head.specs.declared.Refusal.TheVariants.{WrongKind, OverCeiling, NoSlot}
 use Rattle.head.specs.declared.Command.{Command}
 use Rattle.head.specs.declared.Command.TheVariants.{Len, Capacity, Weight, IsEmpty, IsFull, Front, Back, Peek, Contains, List as ListFront, ListBack, Get, Pop, PopFront, PopBack, Put, PutWithWeight, Clear, Retain, Resize, PutOrModify, TryPutOrModify, GetMut, PeekMut, FrontMut, BackMut}
 use Rattle.head.specs.Bounds.{capacity_ok}
@@ -27,7 +26,6 @@ use Rattle.model.proofs.Cases.{split}
 use Rattle.model.proofs.Verdicts.{on_test, on_found_lem, on_plain_lem, on_lent}
 use Rattle.rows.specs.Written.{Written}
 use Rattle.rows.proofs.Nothing.{written_none}
-use Rattle.store.specs.Caches.{after}
 use Rattle.plan.specs.States.{State, Means}
 use Rattle.plan.specs.Plans.{cells_stay}
 use Rattle.plan.proofs.Likeness.{past_self, alike_left}
@@ -213,8 +211,8 @@ ceiling_move absent = stay
 ceiling_move (present i e) = raise i
 
 -- a verdict that refuses with 7 makes this move
-record Moves (g : Move) (v : Verdict) : Type 0 where
-  goes : v.answer ≡ No OverCeiling → v.move ≡ g
+pub record Moves (g : Move) (v : Verdict) : Type 0 where
+  pub goes : v.answer ≡ No OverCeiling → v.move ≡ g
 
 module _ (g : Move) where
   -- another answer
@@ -223,7 +221,7 @@ module _ (g : Move) where
   speaks n = record { goes = λ q. absurd (false≢true (sym n ∙ ap is_no q)) }
 
   -- another refusal
-  other : {v : Verdict} (r : Refusal) → v.answer ≡ No r → (number_of r ≡ 7 → ⊥) → Moves g v
+  pub other : {v : Verdict} (r : Refusal) → v.answer ≡ No r → (number_of r ≡ 7 → ⊥) → Moves g v
   unfolding why_of
   other r e n = record { goes = λ q. absurd (n (ap (λ (a : Answer). number_of (why_of r a)) (sym e ∙ q))) }
 
@@ -237,28 +235,10 @@ module _ (g : Move) where
       (λ i e q. speaks refl))
 
 -- `try_put_or_modify` makes that move where it refuses with 7
-seven : (c s n most : ℕ) (d : Desk) → Moves (ceiling_move (find c d.entries)) (try_put_or_modify_call c s n most d)
+pub seven : (c s n most : ℕ) (d : Desk) → Moves (ceiling_move (find c d.entries)) (try_put_or_modify_call c s n most d)
 seven c s n most d =
     on_plain_lem (Moves (ceiling_move (find c d.entries))) d.kind (other _ WrongKind refl (λ z. absurd (omega arith))) (λ z. by (find c d.entries))
   where
     by : (f : Found) → Moves (ceiling_move f) (on_found f (cond (ltb most n) (refuse OverCeiling) (put_or_modify_call c s n d)) (λ i e. cond (ltb most (e.value + n)) (saying (No OverCeiling) (raise i)) (put_or_modify_call c s n d)))
     by absent = on_test (Moves stay) (ltb most n) (λ y. record { goes = λ q. refl }) (λ y. not_seven stay c s n d)
     by (present i e) = on_test (Moves (raise i)) (ltb most (e.value + n)) (λ y. record { goes = λ q. refl }) (λ y. not_seven (raise i) c s n d)
-
--- refused with 7, an absent code has changed nothing, and a present one has moved to the front; no cell changed
-pub refused_ceiling : {code : Code} {stamp n most lent : ℕ} {s t : State} {a : Answer} {c : Cache} → Serves (TryPutOrModify code stamp n most) lent s t a
-    → Means s c → a ≡ No OverCeiling
-    → Means t (after (ceiling_move (find code.0 c.desk.entries)) c) × (t.cells ≡ s.cells)
-unfolding perform verdict
-refused_ceiling {code} {stamp} {n} {most} {lent} {s} {t} {a} {c} x d e =
-    let f = x.sound c d in
-    let m : (handed lent (try_put_or_modify_call code.0 stamp n most c.desk)).move ≡ ceiling_move (find code.0 c.desk.entries) =
-    (on_lent (Moves (ceiling_move (find code.0 c.desk.entries))) lent (try_put_or_modify_call code.0 stamp n most c.desk)
-    (other _ TooFewRows refl (λ z. absurd (omega arith)))
-    (seven code.0 stamp n most c.desk)).goes
-    (sym f.answer ∙ e) in
-    (subst (λ (v : Move). Means t (after v c)) m f.left, f.cells (ap (λ (v : Move). cells_stay v c.desk) m ∙ stays (find code.0 c.desk.entries)))
-  where
-    stays : (g : Found) → cells_stay (ceiling_move g) c.desk ≡ true
-    stays absent = refl
-    stays (present i e) = refl
