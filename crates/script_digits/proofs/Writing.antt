@@ -1,6 +1,6 @@
 -- The digits of a number, laid: its one digit, or the digits of a tenth of it and then its last digit.
 -- Assumes nothing.
-use Prim.Native.Nat.{ℕ, ◌+◌, ◌/◌, ◌%◌, ◌≤◌, ◌<◌}
+use Prim.Native.Nat.{ℕ, ◌/◌, ◌%◌, ◌≤◌, ◌<◌}
 use mathlib.Core.List.{List, [], ◌∷◌, ◌++◌}
 use mathlib.Core.Path.{◌≡◌, sym, ap, ◌∙◌, subst}
 use native.Mathlib.Nat.{mod-eq_of_lt}

@@ -2,7 +2,6 @@
 -- Assumes nothing.
 use mathlib.Core.Path.{sym, ap, ◌∙◌}
 use lib.Bits.{bit_xor}
-use borrow.Author.Rules.{rules}
 use Rattle.crc.specs.Crc.{shifts, with_byte}
 use Rattle.crc.proofs.Shifts.{shifts_add}
 use Rattle.crc.proofs.byte.Goals as goal

@@ -1,10 +1,10 @@
 -- `crc::crc32` meets its contract. The invariant: the bytes that are left of the code, taken in from c, give what all eight give.
 -- Assumes nothing.
-use mathlib.Core.Path.{◌≡◌, refl, sym, ap, ◌∙◌}
-use Prim.Native.Nat.{ℕ, ◌-◌, ◌≤◌}
+use mathlib.Core.Path.{refl, sym, ap, ◌∙◌}
+use Prim.Native.Nat.{ℕ}
 use native.Mathlib.Omega.{arith}
 use lib.Bits.{bit_xor, and_mask, mask_lt}
-use Rattle.crc.specs.Crc.{ones, with_bytes, crc_of, bytes}
+use Rattle.crc.specs.Crc.{ones, crc_of}
 use Rattle.crc.proofs.Shifts.{next_byte, last_byte}
 use Rattle.crc.proofs.crc32.Goals as goal
 

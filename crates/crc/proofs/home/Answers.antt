@@ -3,7 +3,6 @@
 use mathlib.Core.Path.{ap}
 use Prim.Native.Nat.{ℕ, ◌*◌, ◌%◌}
 use Rattle.crc.specs.Home.{home_of}
-use borrow.Author.Rules.{rules}
 use Rattle.crc.proofs.home.Goals as goal
 
 pub returns : goal.returns

@@ -1,11 +1,10 @@
 -- `crc::of_bytes` meets its contract. The invariant: what is left of the bytes, taken in from `sum`, gives what all of them give.
 -- Assumes nothing.
-use mathlib.Core.Path.{◌≡◌, refl, sym, ap, ◌∙◌}
-use Prim.Native.Nat.{ℕ, ◌-◌, ◌≤◌}
+use mathlib.Core.Path.{refl, sym, ap, ◌∙◌}
+use Prim.Native.Nat.{ℕ}
 use native.Mathlib.Omega.{arith}
 use lib.Bits.{bit_xor}
-use lib.ListN.{length, drop}
-use Rattle.crc.specs.Crc.{ones, with_bytes, crc_of}
+use Rattle.crc.specs.Crc.{ones, crc_of}
 use Rattle.crc.proofs.Shifts.{next_of, last_of}
 use Rattle.crc.proofs.of_bytes.Goals as goal
 

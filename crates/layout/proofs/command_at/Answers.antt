@@ -1,6 +1,5 @@
 -- `layout::command_at` meets its contract.
 -- Assumes nothing.
-use borrow.Author.Rules.{rules}
 use Rattle.layout.proofs.Laid.{command_short, command_whole}
 use Rattle.layout.proofs.command_at.Goals as goal
 

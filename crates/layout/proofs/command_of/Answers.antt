@@ -1,6 +1,5 @@
 -- `layout::command_of` meets its contract.
 -- Assumes nothing.
-use borrow.Author.Rules.{rules}
 use mathlib.Core.Path.{◌∙◌}
 use Rattle.layout.specs.Commands.{command_of}
 use Rattle.layout.proofs.Laid.{at_key, at_none}

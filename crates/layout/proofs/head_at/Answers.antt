@@ -1,6 +1,5 @@
 -- `layout::head_at` meets its contract.
 -- Assumes nothing.
-use borrow.Author.Rules.{rules}
 use Rattle.layout.proofs.Laid.{head_short, head_roomless, head_whole}
 use Rattle.layout.proofs.head_at.Goals as goal
 

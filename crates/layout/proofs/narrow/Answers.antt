@@ -1,6 +1,5 @@
 -- `layout::narrow` meets its contract.
 -- Assumes nothing.
-use borrow.Author.Rules.{rules}
 use Rattle.layout.proofs.Laid.{narrow_in, narrow_out}
 use Rattle.layout.proofs.narrow.Goals as goal
 

@@ -1,6 +1,5 @@
 -- `layout::numbers_of` meets its contract: each arm is the definition's clause.
 -- Assumes nothing.
-use borrow.Author.Rules.{rules}
 use Rattle.layout.proofs.Laid.{told_as, no_as, now_as, flag_as}
 use Rattle.layout.proofs.numbers_of.Goals as goal
 

@@ -1,6 +1,5 @@
 -- `layout::put_answer` meets its contract.
 -- Assumes nothing.
-use borrow.Author.Rules.{rules}
 use Rattle.layout.proofs.Laid.{answered}
 use Rattle.layout.proofs.put_answer.Goals as goal
 

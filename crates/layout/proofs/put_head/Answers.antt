@@ -1,10 +1,8 @@
 -- `layout::put_head` meets its contract.
 -- Assumes nothing.
-use mathlib.Core.Path.{refl}
-use borrow.Author.Rules.{rules}
 use native.Mathlib.Omega.{arith}
 use lib.ListN.{set}
-use Rattle.layout.proofs.Laid.{more, still, left_refused, left_short, left_whole}
+use Rattle.layout.proofs.Laid.{more, left_refused, left_short, left_whole}
 use Rattle.layout.proofs.put_head.Goals as goal
 
 pub returns-then-refusal-eq2 : goal.returns-then-refusal-eq2

@@ -1,10 +1,8 @@
 -- `layout::put_numbers` meets its contract.
 -- Assumes nothing.
-use mathlib.Core.Path.{refl}
-use borrow.Author.Rules.{rules}
 use native.Mathlib.Omega.{arith}
 use lib.ListN.{set}
-use Rattle.layout.proofs.Laid.{more, still, numbers_short, numbers_whole}
+use Rattle.layout.proofs.Laid.{more, numbers_short, numbers_whole}
 use Rattle.layout.proofs.put_numbers.Goals as goal
 
 pub returns-then-list-lt8 : goal.returns-then-list-lt8

@@ -1,6 +1,5 @@
 -- `layout::put_or_modify_of` meets its contract.
 -- Assumes nothing.
-use borrow.Author.Rules.{rules}
 use Rattle.layout.proofs.Laid.{stamp_in, stamp_out}
 use Rattle.layout.proofs.put_or_modify_of.Goals as goal
 

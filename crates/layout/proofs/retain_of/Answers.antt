@@ -1,6 +1,5 @@
 -- `layout::retain_of` meets its contract.
 -- Assumes nothing.
-use borrow.Author.Rules.{rules}
 use Rattle.layout.proofs.Laid.{rule_none, rule_not, rule_one}
 use Rattle.layout.proofs.retain_of.Goals as goal
 

@@ -1,12 +1,10 @@
 -- `list::bare_ok` meets its contract.
 -- Assumes nothing.
-use Prim.Native.Nat.{◌≤◌, ◌-◌}
-use mathlib.Core.Path.{◌≡◌, ◌∙◌, sym, refl}
+use mathlib.Core.Path.{◌∙◌, sym, refl}
 use native.Mathlib.Omega.{arith}
 use borrow.Author.Rules.{rules}
-use borrow.Author.Tests.{not-true, not-false}
 use Rattle.list.proofs.Tests.{all_fail, all_more, all_end}
-use Rattle.list.specs.Inspect.{all_from, bare_ok}
+use Rattle.list.specs.Inspect.{bare_ok}
 use Rattle.list.proofs.bare_ok.Goals as goal
 
 pub loop-k-init : goal.loop-k-init

@@ -1,6 +1,5 @@
 -- `list::cell_ok` meets its contract.
 -- Assumes nothing.
-use borrow.Author.Rules.{rules}
 use mathlib.Core.Path.{◌∙◌}
 use borrow.Author.Tests.{lt-ltb, le-ltb}
 use Rattle.list.specs.Inspect.{cell_ok}

@@ -1,11 +1,7 @@
 -- `list::cells_ok` meets its contract.
 -- Assumes nothing.
 use Prim.Native.Nat.{◌≤◌, ◌-◌}
-use mathlib.Core.Path.{◌≡◌, ◌∙◌, sym}
-use native.Mathlib.Omega.{arith}
-use borrow.Author.Rules.{rules}
-use borrow.Author.Tests.{not-true, not-false}
-use Rattle.list.proofs.Tests.{all_fail, all_more, all_end, all_start}
+use mathlib.Core.Path.{◌≡◌}
 use Rattle.list.specs.Inspect.{all_from, cell_ok}
 use Rattle.list.proofs.cells_ok.Given as goal
 

@@ -1,6 +1,5 @@
 -- `list::clear` meets its contract.
 -- Assumes nothing.
-use borrow.Author.Rules.{rules}
 use Rattle.list.proofs.Filling.{cleared}
 use Rattle.list.proofs.clear.Goals as goal
 

@@ -1,8 +1,7 @@
 -- `list::evict` meets its contract.
 -- Assumes nothing.
-use Prim.Native.Nat.{◌-◌}
 use native.Mathlib.Omega.{arith}
-use Rattle.list.proofs.Evicting.{Evicting, evicting_first, evicting_held, evicting_more, evicting_last}
+use Rattle.list.proofs.Evicting.{evicting_first, evicting_held, evicting_more, evicting_last}
 use Rattle.list.proofs.evict.Goals as goal
 
 pub loop-gone-init : goal.loop-gone-init

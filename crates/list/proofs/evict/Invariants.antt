@@ -1,8 +1,7 @@
 -- `list::evict` meets its contract.
 -- Assumes nothing.
 use Prim.Native.Nat.{◌-◌}
-use native.Mathlib.Omega.{arith}
-use Rattle.list.proofs.Evicting.{Evicting, evicting_first, evicting_held, evicting_more, evicting_last}
+use Rattle.list.proofs.Evicting.{Evicting}
 use Rattle.list.proofs.evict.Given as goal
 
 abbrev pub invariant-loop-gone : goal.invariant-loop-gone

@@ -1,9 +1,7 @@
 -- `list::inspect_links` meets its contract.
 -- Assumes nothing.
-use borrow.Author.Rules.{rules}
 use mathlib.Core.Path.{◌∙◌, sym}
 use native.Mathlib.Omega.{arith}
-use borrow.Author.Tests.{not-true, not-false}
 use Rattle.list.proofs.Decide.{numbers, answer_1, answer_2, answer_3, answer_4}
 use Rattle.list.proofs.inspect_links.Goals as goal
 

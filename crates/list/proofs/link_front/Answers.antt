@@ -1,6 +1,5 @@
 -- `list::link_front` meets its contract.
 -- Assumes nothing.
-use borrow.Author.Rules.{rules}
 use Rattle.list.proofs.Fronting.{fronted}
 use Rattle.list.proofs.link_front.Goals as goal
 

@@ -1,6 +1,5 @@
 -- `list::links_are` meets its contract.
 -- Assumes nothing.
-use borrow.Author.Rules.{rules}
 use borrow.Author.Tests.{eq-eqb, ne_eqb}
 use Rattle.list.specs.Inspect.{links_are}
 use Rattle.list.proofs.links_are.Goals as goal

@@ -1,6 +1,5 @@
 -- `list::move_front` meets its contract.
 -- Assumes nothing.
-use borrow.Author.Rules.{rules}
 use Rattle.list.proofs.Calls.{moved}
 use Rattle.list.proofs.move_front.Goals as goal
 

@@ -1,6 +1,5 @@
 -- `list::next` meets its contract.
 -- Assumes nothing.
-use borrow.Author.Rules.{rules}
 use mathlib.Core.Path.{◌≡◌}
 use native.Mathlib.Omega.{arith}
 use Rattle.list.proofs.Taking.{given_top, given_pop}

@@ -1,6 +1,5 @@
 -- `list::numbers_ok` meets its contract.
 -- Assumes nothing.
-use borrow.Author.Rules.{rules}
 use borrow.Author.Tests.{le-leb, lt-leb}
 use Rattle.list.specs.Inspect.{numbers_ok}
 use Rattle.list.proofs.Tests.{numbers_last}

@@ -1,6 +1,5 @@
 -- `list::push_front` meets its contract.
 -- Assumes nothing.
-use borrow.Author.Rules.{rules}
 use Rattle.list.proofs.Calls.{taken_room, pushed}
 use Rattle.list.proofs.push_front.Goals as goal
 

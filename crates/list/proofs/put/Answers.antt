@@ -1,6 +1,5 @@
 -- `list::put` meets its contract.
 -- Assumes nothing.
-use borrow.Author.Rules.{rules}
 use borrow.Author.Tests.{lt-ltb, le-ltb}
 use Rattle.list.specs.Steps.{put_at}
 use Rattle.list.proofs.put.Goals as goal

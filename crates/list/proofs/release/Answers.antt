@@ -1,6 +1,5 @@
 -- `list::release` meets its contract.
 -- Assumes nothing.
-use borrow.Author.Rules.{rules}
 use Rattle.list.proofs.Stacking.{released}
 use Rattle.list.proofs.release.Goals as goal
 

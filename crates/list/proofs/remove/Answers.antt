@@ -1,6 +1,5 @@
 -- `list::remove` meets its contract.
 -- Assumes nothing.
-use borrow.Author.Rules.{rules}
 use Rattle.list.proofs.Calls.{held_room, held_stackable, removed}
 use Rattle.list.proofs.remove.Goals as goal
 

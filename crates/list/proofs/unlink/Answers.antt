@@ -1,6 +1,5 @@
 -- `list::unlink` meets its contract.
 -- Assumes nothing.
-use borrow.Author.Rules.{rules}
 use Rattle.list.proofs.Unlinking.{unlinked}
 use Rattle.list.proofs.unlink.Goals as goal
 

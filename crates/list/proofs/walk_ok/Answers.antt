@@ -1,12 +1,9 @@
 -- `list::walk_ok` meets its contract.
 -- Assumes nothing.
-use Prim.Native.Nat.{◌≤◌}
-use mathlib.Core.Path.{◌≡◌, ◌∙◌, sym, refl}
+use mathlib.Core.Path.{◌∙◌, sym, refl}
 use native.Mathlib.Omega.{arith}
 use borrow.Author.Rules.{rules}
 use borrow.Author.Tests.{eq-eqb, ne_eqb}
-use Rattle.head.specs.Bounds.{none_mark}
-use Rattle.list.specs.Inspect.{walk_ok}
 use Rattle.list.proofs.Tests.{walk_far, walk_miss, walk_more, walk_end}
 use Rattle.list.proofs.walk_ok.Goals as goal
 

@@ -1,13 +1,9 @@
 -- `list::walk_ok` meets its contract.
 -- Assumes nothing.
 use Prim.Native.Nat.{◌≤◌}
-use mathlib.Core.Path.{◌≡◌, ◌∙◌, sym, refl}
-use native.Mathlib.Omega.{arith}
-use borrow.Author.Rules.{rules}
-use borrow.Author.Tests.{eq-eqb, ne_eqb}
+use mathlib.Core.Path.{◌≡◌}
 use Rattle.head.specs.Bounds.{none_mark}
 use Rattle.list.specs.Inspect.{walk_ok}
-use Rattle.list.proofs.Tests.{walk_far, walk_miss, walk_more, walk_end}
 use Rattle.list.proofs.walk_ok.Given as goal
 
 abbrev pub invariant-loop-left : goal.invariant-loop-left

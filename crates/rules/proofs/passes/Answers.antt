@@ -3,7 +3,6 @@
 use mathlib.Core.Path.{sym}
 use borrow.Author.Tests.{eq-eqb, ne_eqb}
 use Rattle.rules.proofs.Passing.{stamp_passes}
-use borrow.Author.Rules.{rules}
 use Rattle.rules.proofs.passes.Goals as goal
 
 pub returns-then-rule-eq-CODE : goal.returns-then-rule-eq-CODE

@@ -1,7 +1,5 @@
 -- `script_digits::write` meets its contract. The measure is the number.
 -- Assumes nothing.
-use Prim.Native.Nat.{ℕ, ◌<◌}
-use mathlib.Core.Path.{◌∙◌}
 use native.Mathlib.Omega.{arith}
 use Rattle.script_digits.proofs.Decimals.{digits_least, digits_longer}
 use Rattle.script_digits.proofs.Writing.{wrote_one, wrote_more}

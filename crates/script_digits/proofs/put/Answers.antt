@@ -2,7 +2,6 @@
 -- Assumes nothing.
 use mathlib.Core.Path.{refl}
 use native.Mathlib.Omega.{arith}
-use borrow.Author.Rules.{rules}
 use Rattle.script_digits.proofs.Laying.{laid_one}
 use Rattle.script_digits.proofs.put.Goals as goal
 

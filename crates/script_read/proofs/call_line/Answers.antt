@@ -3,7 +3,6 @@
 use mathlib.Core.Path.{refl}
 use Rattle.script_read.specs.Grammar.{call_of}
 use Rattle.script_read.proofs.Saying.{call_told}
-use borrow.Author.Rules.{rules}
 use Rattle.script_read.proofs.call_line.Goals as goal
 
 pub returns-in-Nought : goal.returns-in-Nought

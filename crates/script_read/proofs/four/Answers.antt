@@ -3,7 +3,6 @@
 use mathlib.Core.Path.{refl}
 use Rattle.script_read.specs.Grammar.{four_of}
 use Rattle.script_read.proofs.Saying.{or_else, too_wide, fits_narrow}
-use borrow.Author.Rules.{rules}
 use Rattle.script_read.proofs.four.Goals as goal
 
 pub returns-then-b-gt-NARROW : goal.returns-then-b-gt-NARROW

@@ -3,7 +3,6 @@
 use mathlib.Core.Path.{refl}
 use Rattle.script_read.specs.Grammar.{if_call}
 use Rattle.script_read.proofs.Saying.{is_so, is_not}
-use borrow.Author.Rules.{rules}
 use Rattle.script_read.proofs.if_call.Goals as goal
 
 pub returns-then-is_word : goal.returns-then-is_word

@@ -1,11 +1,9 @@
 -- `script_read::is_word` meets its contract. The invariant: the whole test is the test from here on. The measure: bytes not looked at yet.
 -- Assumes nothing.
-use Prim.Native.Nat.{◌≤◌, ◌<◌, ◌-◌}
-use mathlib.Core.Path.{◌≡◌, refl, sym, ◌∙◌}
+use Prim.Native.Nat.{◌<◌}
+use mathlib.Core.Path.{refl, sym, ◌∙◌}
 use native.Mathlib.Omega.{arith}
-use lib.ListN.{length, drop}
-use lib.Seq.{slice}
-use Rattle.script_read.specs.Keywords.{same}
+use lib.ListN.{length}
 use Rattle.script_read.proofs.Reading.{same_last, same_short, same_differ, same_more}
 use Rattle.script_read.proofs.is_word.Goals as goal
 

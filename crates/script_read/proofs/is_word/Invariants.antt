@@ -1,12 +1,10 @@
 -- `script_read::is_word` meets its contract. The invariant: the whole test is the test from here on. The measure: bytes not looked at yet.
 -- Assumes nothing.
-use Prim.Native.Nat.{◌≤◌, ◌<◌, ◌-◌}
-use mathlib.Core.Path.{◌≡◌, refl, sym, ◌∙◌}
-use native.Mathlib.Omega.{arith}
+use Prim.Native.Nat.{◌≤◌, ◌-◌}
+use mathlib.Core.Path.{◌≡◌}
 use lib.ListN.{length, drop}
 use lib.Seq.{slice}
 use Rattle.script_read.specs.Keywords.{same}
-use Rattle.script_read.proofs.Reading.{same_last, same_short, same_differ, same_more}
 use Rattle.script_read.proofs.is_word.Given as goal
 
 abbrev pub invariant-loop-at : goal.invariant-loop-at

@@ -3,7 +3,6 @@
 use mathlib.Core.Path.{refl}
 use Rattle.script_read.specs.Grammar.{kind_line}
 use Rattle.script_read.proofs.Saying.{is_so, is_not, too_wide, fits_narrow}
-use borrow.Author.Rules.{rules}
 use Rattle.script_read.proofs.kind_line.Goals as goal
 
 pub returns-then-n-gt-NARROW : goal.returns-then-n-gt-NARROW

@@ -3,7 +3,6 @@
 use mathlib.Core.Path.{refl}
 use Rattle.script_read.specs.Grammar.{one_of}
 use Rattle.script_read.proofs.Saying.{or_else}
-use borrow.Author.Rules.{rules}
 use Rattle.script_read.proofs.one.Goals as goal
 
 pub if_call-line-requires : goal.if_call-line-requires

@@ -3,7 +3,6 @@
 use mathlib.Core.Path.{refl}
 use Rattle.script_read.specs.Grammar.{range_line}
 use Rattle.script_read.proofs.Saying.{or_else}
-use borrow.Author.Rules.{rules}
 use Rattle.script_read.proofs.range_line.Goals as goal
 
 pub if_call-line-requires : goal.if_call-line-requires

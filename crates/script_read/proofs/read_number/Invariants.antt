@@ -1,11 +1,10 @@
 -- `script_read::read_number` meets its contract. The invariant: the whole is the digits from here on behind a value. The measure: bytes not read yet.
 -- Assumes nothing.
-use Prim.Native.Nat.{◌≤◌, ◌<◌, ◌-◌}
-use mathlib.Core.Path.{◌≡◌, sym, ◌∙◌}
-use native.Mathlib.Omega.{arith}
+use Prim.Native.Nat.{◌≤◌, ◌-◌}
+use mathlib.Core.Path.{◌≡◌}
 use lib.Seq.{slice}
 use Rattle.script_read.specs.Numerals.{most_wide, number_of}
-use Rattle.script_read.proofs.Reading.{number_after, number_none, number_start, number_low, number_high, number_wide, number_more, number_last}
+use Rattle.script_read.proofs.Reading.{number_after}
 use Rattle.script_read.proofs.read_number.Given as goal
 
 abbrev pub invariant-loop-at : goal.invariant-loop-at

@@ -2,13 +2,8 @@
 -- Assumes nothing.
 -- `script_read::read_numbers` meets its contract. The invariant: the whole is the numbers so far with the words from here on behind them.
 -- The measure: bytes not read yet. Assumes nothing.
-use Prim.Native.Nat.{◌≤◌, ◌-◌}
-use mathlib.Core.Path.{◌≡◌, refl, sym, ◌∙◌}
+use mathlib.Core.Path.{refl, sym, ◌∙◌}
 use native.Mathlib.Omega.{arith}
-use borrow.Author.Rules.{rules}
-use lib.Seq.{slice}
-use Rattle.script_read.specs.Words.{words_past}
-use Rattle.script_read.specs.Numerals.{numbers_after, numbers_of}
 use Rattle.script_read.proofs.Reading.{numbers_wrong, numbers_more, numbers_last}
 use Rattle.script_read.proofs.read_numbers.Goals as goal
 

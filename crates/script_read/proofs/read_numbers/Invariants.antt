@@ -3,13 +3,10 @@
 -- `script_read::read_numbers` meets its contract. The invariant: the whole is the numbers so far with the words from here on behind them.
 -- The measure: bytes not read yet. Assumes nothing.
 use Prim.Native.Nat.{◌≤◌, ◌-◌}
-use mathlib.Core.Path.{◌≡◌, refl, sym, ◌∙◌}
-use native.Mathlib.Omega.{arith}
-use borrow.Author.Rules.{rules}
+use mathlib.Core.Path.{◌≡◌}
 use lib.Seq.{slice}
 use Rattle.script_read.specs.Words.{words_past}
 use Rattle.script_read.specs.Numerals.{numbers_after, numbers_of}
-use Rattle.script_read.proofs.Reading.{numbers_wrong, numbers_more, numbers_last}
 use Rattle.script_read.proofs.read_numbers.Given as goal
 
 abbrev pub invariant-loop-at : goal.invariant-loop-at

@@ -1,7 +1,6 @@
 -- `script_read::retain_line` meets its contract: with `not` or without.
 -- Assumes nothing.
 use Rattle.script_read.proofs.Saying.{retain_none, retain_not, retain_plain}
-use borrow.Author.Rules.{rules}
 use Rattle.script_read.proofs.retain_line.Goals as goal
 
 pub returns-then-at-to : goal.returns-then-at-to

@@ -3,7 +3,6 @@
 use mathlib.Core.Path.{refl}
 use Rattle.script_read.specs.Grammar.{rule_numbers}
 use Rattle.script_read.proofs.Saying.{rule_none, rule_some}
-use borrow.Author.Rules.{rules}
 use Rattle.script_read.proofs.rule_line.Goals as goal
 
 pub returns-then-at-to : goal.returns-then-at-to

@@ -1,7 +1,6 @@
 -- `script_read::understand` meets its contract: `open`, `retain`, or a call.
 -- Assumes nothing.
 use Rattle.script_read.proofs.Saying.{says_open, says_retain, says_call}
-use borrow.Author.Rules.{rules}
 use Rattle.script_read.proofs.understand.Goals as goal
 
 pub returns-then-is_word : goal.returns-then-is_word

@@ -2,9 +2,7 @@
 -- Assumes nothing.
 -- `script_read::word_end` meets its contract. The invariant: where the first word of what is left ends, the first word of the whole ends.
 -- The measure: bytes not looked at yet. Assumes nothing.
-use Prim.Native.Nat.{ℕ, ◌≤◌, ◌-◌}
 use native.Mathlib.Omega.{arith}
-use Rattle.script_read.specs.Words.{Ends}
 use Rattle.script_read.proofs.Reading.{ends_space, ends_more, ends_last}
 use Rattle.script_read.proofs.word_end.Goals as goal
 

@@ -2,7 +2,6 @@
 -- Assumes nothing.
 use native.Mathlib.Omega.{arith}
 use Rattle.script_write.proofs.Answers.{answered, refused}
-use borrow.Author.Rules.{rules}
 use Rattle.script_write.proofs.write_answer.Goals as goal
 
 pub write_numbered-requires : goal.write_numbered-requires

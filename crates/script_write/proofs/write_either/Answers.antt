@@ -1,6 +1,5 @@
 -- `script_write::write_either` meets its contract.
 -- Assumes nothing.
-use borrow.Author.Rules.{rules}
 use Rattle.script_write.proofs.write_either.Goals as goal
 
 pub write_word-requires : goal.write_word-requires

@@ -4,7 +4,6 @@ use native.Mathlib.Omega.{arith}
 use Rattle.script_digits.proofs.Laying.{laid_then}
 use mathlib.Core.Bool.{true}
 use Rattle.script_write.proofs.Parts.{behind, row_most}
-use borrow.Author.Rules.{rules}
 use Rattle.script_write.proofs.write_entry.Goals as goal
 
 pub write_word-requires : goal.write_word-requires

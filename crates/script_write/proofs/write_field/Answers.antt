@@ -1,7 +1,6 @@
 -- `script_write::write_field` meets its contract.
 -- Assumes nothing.
 use native.Mathlib.Omega.{arith}
-use borrow.Author.Rules.{rules}
 use Rattle.script_digits.proofs.Decimals.{digits_most}
 use Rattle.script_digits.proofs.Laying.{laid_then}
 use Rattle.script_write.proofs.write_field.Goals as goal

@@ -5,7 +5,6 @@ use native.Mathlib.Omega.{arith}
 use Rattle.script_digits.proofs.Laying.{laid_then}
 use Rattle.script_write.proofs.Parts.{behind, field_most}
 use lib.ListN.{length}
-use borrow.Author.Rules.{rules}
 use Rattle.script_write.proofs.write_now.Goals as goal
 use Rattle.script_write.proofs.write_now.Goals.{After-write_word-a}
 

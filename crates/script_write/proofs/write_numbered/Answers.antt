@@ -2,7 +2,6 @@
 -- Assumes nothing.
 use native.Mathlib.Omega.{arith}
 use Rattle.script_digits.proofs.Laying.{laid_then}
-use borrow.Author.Rules.{rules}
 use Rattle.script_write.proofs.write_numbered.Goals as goal
 
 pub write_word-next-requires : goal.write_word-next-requires

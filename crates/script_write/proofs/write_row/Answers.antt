@@ -5,7 +5,6 @@ use native.Mathlib.Omega.{arith}
 use Rattle.script_digits.proofs.Laying.{laid_then}
 use Rattle.script_write.proofs.Parts.{behind, field_most, row_word_most}
 use lib.ListN.{length}
-use borrow.Author.Rules.{rules}
 use Rattle.script_write.proofs.write_row.Goals as goal
 use Rattle.script_write.proofs.write_row.Goals.{After-write_either-a, After-write_field-b, After-write_field-c, After-write_field-d}
 

@@ -1,13 +1,12 @@
 -- `script_write::write_word` meets its contract: the word's first i bytes are laid. The measure is what is left of the word.
 -- Assumes nothing.
-use Prim.Native.Nat.{ℕ, ◌≤◌, ◌-◌}
+use Prim.Native.Nat.{ℕ}
 use mathlib.Core.List.{List}
 use mathlib.Core.Path.{subst}
 use native.Mathlib.Omega.{arith}
-use lib.ListN.{length, take}
 use lib.Seq.{take_all}
 use Rattle.script_digits.specs.Laid.{Laid}
-use Rattle.script_digits.proofs.Laying.{laid_none, laid_size}
+use Rattle.script_digits.proofs.Laying.{laid_none}
 use Rattle.script_write.proofs.Parts.{byte_room, byte_step}
 use Rattle.script_write.proofs.write_word.Goals as goal
 

@@ -1,7 +1,6 @@
 -- `script_read::Numbers::with` meets its contract: each arm is the clause of its case.
 -- Assumes nothing.
 use mathlib.Core.Path.{sym, ap}
-use borrow.Author.Rules.{rules}
 use Rattle.script_read.specs.declared.Numbers.{Numbers}
 use Rattle.script_read.specs.Numerals.{with_one}
 use Rattle.script_read.proofs.Numbers.with.Goals as goal
