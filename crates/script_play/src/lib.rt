@@ -1,14 +1,15 @@
 // The script program as a function: reads lines from a file, carries each out on one cache, and writes what it answers. docs/SCRIPT.md has the lines.
 #![tactic(auto)]
 
-ghost use Rattle.std.specs.Prelude.{◌≡◌, ◌≤◌, length};
+ghost use Rattle.std.specs.Prelude.{◌≡◌, ◌≤◌, length, IfOk};
 ghost use Rattle.head.specs.Fresh.{fresh_head};
 ghost use Rattle.store.specs.State.{fields};
 ghost use Rattle.script_play.specs.Cutting.{line_end, next_line};
 ghost use Rattle.script_play.specs.Playing.{Plays, Played, lent};
 
 use head::Head;
-use libc::STDOUT_FILENO;
+use std::io;
+use std::io::Read;
 
 // Where the line that begins at `from` ends: at the next newline, or at the end of the input.
 fn line_end(input: &[u8], from: usize, n: usize) -> usize
@@ -43,6 +44,7 @@ pub struct Left {
 
 // Carries out the lines of the input, one after another, until one's answer cannot be written. Before the first opening the head describes no cache.
 fn play(
+    rt: &impl Print,
     input: &[u8],
     n: usize,
     codes: &mut [u64],
@@ -86,20 +88,35 @@ fn play(
             row_weights,
             out,
         );
-        written = io::write_all(STDOUT_FILENO, &out[..done.size]);
+        written = rt.write_all(&out[..done.size]).is_ok();
         head = done.head;
         from = next_line(written, to, n);
     }
     Left { head, written }
 }
 
-// Plays what a file holds on a cache of at most 256 slots. An input longer than 32,768 bytes writes only `no 8`.
-pub fn desk(file: i32) {
+// Reads until the buffer is full or the input ends, and answers how many bytes it put at the start of the buffer.
+fn read_full(source: &mut impl Read, buffer: &mut [u8]) -> io::Result<usize>
+    ensures { IfOk result (λ n. n ≤ length buffer.new) }
+{
+    let mut done: usize = 0;
+    while done < buffer.len() {
+        let n = source.read(&mut buffer[done..])?;
+        if n == 0 {
+            break;
+        }
+        done += n;
+    }
+    Ok(done)
+}
+
+// Plays what a source holds on a cache of at most 256 slots. An input longer than 32,768 bytes writes only `no 8`.
+// An error says that the source could not be read, or that this `no 8` could not be written.
+pub fn desk(rt: &impl Print, source: &mut impl Read) -> io::Result<()> {
     let mut input = [0u8; 32769];
-    let n = io::read_full(file, &mut input);
+    let n = read_full(source, &mut input)?;
     if 32768 < n {
-        io::write_all(STDOUT_FILENO, b"no 8\n");
-        return;
+        return rt.write_all(b"no 8\n");
     }
     let mut codes = [0u64; 256];
     let mut stamps = [0u32; 256];
@@ -116,6 +133,7 @@ pub fn desk(file: i32) {
     // The lines of 256 rows, and a closing line.
     let mut out = [0u8; 33024];
     play(
+        rt,
         &input,
         n,
         &mut codes,
@@ -132,4 +150,5 @@ pub fn desk(file: i32) {
         &mut row_weights,
         &mut out,
     );
+    Ok(())
 }

@@ -1,25 +1,22 @@
 // The script program on inputs at the edges: calls before `open`, exactly 32,768 bytes, one more, empty lines, nothing at all.
 #![tactic(auto)]
 
-use libc::STDOUT_FILENO;
+use std::fs::File;
+use std::io;
+use std::rt::Files;
 
 // Plays a file of data/, under its name.
-fn play_file(name: &[u8]) {
-    io::write_all(STDOUT_FILENO, b"= ");
-    io::write_all(STDOUT_FILENO, name);
-    io::write_all(STDOUT_FILENO, b"\n");
-    let file = os::open_read(name);
-    if file < 0 {
-        io::write_all(STDOUT_FILENO, b"missing\n");
-        return;
-    }
-    script_play::desk(file);
-    libc::close(file);
+fn play_file(rt: &(impl Files + Print), name: &str) -> io::Result<()> {
+    println!(rt; "= {name}")?;
+    let Ok(mut file) = File::open(rt, name) else {
+        return rt.write_all(b"missing\n");
+    };
+    script_play::desk(rt, &mut file)
 }
 
-fn main() {
-    play_file(b"full");
-    play_file(b"over");
-    play_file(b"short");
-    play_file(b"empty");
+fn main(rt: HostRuntime) -> io::Result<()> {
+    play_file(&rt, "full")?;
+    play_file(&rt, "over")?;
+    play_file(&rt, "short")?;
+    play_file(&rt, "empty")
 }

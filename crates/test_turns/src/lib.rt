@@ -4,7 +4,7 @@
 ghost use Rattle.std.specs.Prelude.{◌≤◌};
 
 use head::{Code, Command, Head, Place, Rule, Slot};
-use libc::STDOUT_FILENO;
+use std::io;
 
 // The words, in an order by which the numbers follow that a word takes.
 const LEN: u32 = 0;
@@ -749,67 +749,60 @@ pub fn row_share(list: u32, len: usize, t: Turn) -> usize
 // ---- how a turn is told
 
 // Text, to standard output.
-pub fn say(text: &[u8]) {
-    io::write_all(STDOUT_FILENO, text);
+pub fn say(rt: &impl Print, text: &[u8]) -> io::Result<()> {
+    rt.write_all(text)
 }
 
 // A space and a number.
-pub fn say_number(n: u64) {
-    io::write_all(STDOUT_FILENO, b" ");
-    io::print_decimal(STDOUT_FILENO, n);
+pub fn say_number(rt: &impl Print, n: u64) -> io::Result<()> {
+    print!(rt; " {n}")
 }
 
-fn say_if(on: bool, n: u64) {
-    if on {
-        say_number(n);
-    }
+fn say_if(rt: &impl Print, on: bool, n: u64) -> io::Result<()> {
+    if on { say_number(rt, n) } else { Ok(()) }
 }
 
 // A space and 1 or 0.
-pub fn say_flag(on: bool) {
-    if on {
-        say(b" 1");
-    } else {
-        say(b" 0");
-    }
+pub fn say_flag(rt: &impl Print, on: bool) -> io::Result<()> {
+    if on { say(rt, b" 1") } else { say(rt, b" 0") }
 }
 
 // The words without numbers.
-fn say_bare_word(word: u32) {
+fn say_bare_word(rt: &impl Print, word: u32) -> io::Result<()> {
     match word {
-        LEN => say(b" len"),
-        CAPACITY => say(b" capacity"),
-        WEIGHT => say(b" weight"),
-        IS_EMPTY => say(b" is_empty"),
-        IS_FULL => say(b" is_full"),
-        FRONT => say(b" front"),
-        BACK => say(b" back"),
-        LIST_FRONT => say(b" list"),
-        LIST_BACK => say(b" list_back"),
-        POP_FRONT => say(b" pop_front"),
-        POP_BACK => say(b" pop_back"),
-        _ => say(b" clear"),
+        LEN => say(rt, b" len"),
+        CAPACITY => say(rt, b" capacity"),
+        WEIGHT => say(rt, b" weight"),
+        IS_EMPTY => say(rt, b" is_empty"),
+        IS_FULL => say(rt, b" is_full"),
+        FRONT => say(rt, b" front"),
+        BACK => say(rt, b" back"),
+        LIST_FRONT => say(rt, b" list"),
+        LIST_BACK => say(rt, b" list_back"),
+        POP_FRONT => say(rt, b" pop_front"),
+        POP_BACK => say(rt, b" pop_back"),
+        _ => say(rt, b" clear"),
     }
 }
 
 // The words with numbers.
-fn say_other_word(word: u32) {
+fn say_other_word(rt: &impl Print, word: u32) -> io::Result<()> {
     match word {
-        PEEK => say(b" peek"),
-        CONTAINS => say(b" contains"),
-        GET => say(b" get"),
-        POP => say(b" pop"),
-        GET_MUT => say(b" get_mut"),
-        PEEK_MUT => say(b" peek_mut"),
-        PUT => say(b" put"),
-        PUT_OR_MODIFY => say(b" put_or_modify"),
-        PUT_WITH_WEIGHT => say(b" putw"),
-        TRY_PUT_OR_MODIFY => say(b" try_put_or_modify"),
-        RETAIN => say(b" retain"),
-        OPEN => say(b" open"),
-        FRONT_MUT => say(b" front_mut"),
-        BACK_MUT => say(b" back_mut"),
-        _ => say(b" resize"),
+        PEEK => say(rt, b" peek"),
+        CONTAINS => say(rt, b" contains"),
+        GET => say(rt, b" get"),
+        POP => say(rt, b" pop"),
+        GET_MUT => say(rt, b" get_mut"),
+        PEEK_MUT => say(rt, b" peek_mut"),
+        PUT => say(rt, b" put"),
+        PUT_OR_MODIFY => say(rt, b" put_or_modify"),
+        PUT_WITH_WEIGHT => say(rt, b" putw"),
+        TRY_PUT_OR_MODIFY => say(rt, b" try_put_or_modify"),
+        RETAIN => say(rt, b" retain"),
+        OPEN => say(rt, b" open"),
+        FRONT_MUT => say(rt, b" front_mut"),
+        BACK_MUT => say(rt, b" back_mut"),
+        _ => say(rt, b" resize"),
     }
 }
 
@@ -820,42 +813,43 @@ fn between(low: u32, n: u32, high: u32) -> bool {
     n <= high
 }
 
-fn say_numbers(t: Turn) {
+fn say_numbers(rt: &impl Print, t: Turn) -> io::Result<()> {
     let word = t.word;
-    say_if(between(PEEK, word, RETAIN), t.a);
-    say_if(between(PUT, word, OPEN), t.b as u64);
-    say_if(between(GET_MUT, word, RESIZE), t.c);
-    say_if(between(PUT_WITH_WEIGHT, word, OPEN), t.d);
+    say_if(rt, between(PEEK, word, RETAIN), t.a)?;
+    say_if(rt, between(PUT, word, OPEN), t.b as u64)?;
+    say_if(rt, between(GET_MUT, word, RESIZE), t.c)?;
+    say_if(rt, between(PUT_WITH_WEIGHT, word, OPEN), t.d)
 }
 
 // What is unusual about a turn.
-fn say_manner(t: Turn) {
+fn say_manner(rt: &impl Print, t: Turn) -> io::Result<()> {
     if t.door {
-        say(b" door");
+        say(rt, b" door")?;
     }
     if t.list != 0 {
-        say(b" list");
-        say_number(t.list as u64);
-        say(b" lent");
-        say_number(t.lent as u64);
+        say(rt, b" list")?;
+        say_number(rt, t.list as u64)?;
+        say(rt, b" lent")?;
+        say_number(rt, t.lent as u64)?;
     }
     if t.field != 0 {
-        say(b" head");
-        say_number(t.field as u64);
-        say(b" set");
-        say_number(t.number);
+        say(rt, b" head")?;
+        say_number(rt, t.field as u64)?;
+        say(rt, b" set")?;
+        say_number(rt, t.number)?;
     }
+    Ok(())
 }
 
 // The turn as it was asked: its number, its word, its numbers and what is unusual about it.
-pub fn say_turn(i: u32, t: Turn) {
+pub fn say_turn(rt: &impl Print, i: u32, t: Turn) -> io::Result<()> {
     let word = t.word;
-    io::print_decimal(STDOUT_FILENO, i as u64);
+    print!(rt; "{i}")?;
     if word <= CLEAR {
-        say_bare_word(word);
+        say_bare_word(rt, word)?;
     } else {
-        say_other_word(word);
+        say_other_word(rt, word)?;
     }
-    say_numbers(t);
-    say_manner(t);
+    say_numbers(rt, t)?;
+    say_manner(rt, t)
 }
