@@ -1,18 +1,13 @@
 -- The code that a command looks for, arm by arm.
 -- Assumes nothing.
-use Rattle.std.proofs.Common.{◌≡◌, ℕ, ◌*◌, Bool, true, false, ◌||◌, eqb, List, [], ◌∷◌, sym, refl, ⊎_elim, eq-eqb}
-use mathlib.Core.Bool.{false≢true}
-use types.Run.{OneOf}
-use denote.Enum.Declared.{tag_of}
+use Rattle.std.proofs.Common.{◌≡◌, ℕ, ◌*◌, List, sym, refl}
 use Rattle.head.specs.declared.Command.{Command}
 use Rattle.head.specs.declared.Command.TheVariants.{Len, Capacity, Weight, IsEmpty, IsFull, Front, Back, Peek, Contains, List as ListFront, ListBack, Get, Pop, PopFront, PopBack, Put, PutWithWeight, Clear, Retain, Resize, PutOrModify, TryPutOrModify, GetMut, PeekMut, FrontMut, BackMut}
-use Rattle.head.specs.contracts.Command.{the_type}
 use Rattle.head.specs.declared.Code.{Code}
 use Rattle.crc.specs.Home.{home_of}
 use Rattle.table.specs.declared.Search.{Search}
 use Rattle.table.specs.declared.Search.TheVariants.{Empty}
 use Rattle.table.specs.Cells.{sought}
-use Rattle.model.proofs.Cases.{split}
 use Rattle.decide.specs.declared.Wanted.{Wanted}
 use Rattle.decide.specs.declared.Wanted.TheVariants.{For, Nothing}
 use Rattle.decide.specs.Wants.{wanted_by, search_for}

@@ -1,6 +1,6 @@
 -- Decisions that need a few numbers only.
 -- Assumes nothing.
-use Rattle.std.specs.Prelude.{◌≡◌, ℕ, ◌<◌, true, false, cond, ◌&&◌, List, length, ◌==◌, ◌≢◌, nat_le, slice_index}
+use Rattle.std.specs.Prelude.{ℕ, ◌<◌, true, false, cond, ◌&&◌, List, length, ◌==◌, ◌≢◌, nat_le, slice_index}
 use Rattle.head.specs.declared.Head.{Head}
 use Rattle.head.specs.declared.Slot.{Slot}
 use Rattle.head.specs.declared.Row.{Row}

@@ -1,7 +1,6 @@
 -- `act::act` meets its contract: in each arm the plan is known, and the callee's promise is the plan's.
 -- Assumes nothing.
 use mathlib.Core.Path.{refl}
-use borrow.Author.Rules.{rules}
 use Rattle.act.proofs.Deciding.{needed, acted_as, stayed}
 use Rattle.act.proofs.Stepping.{raise_room, raise_acted, set_room, set_acted, renew_value, renew_room, renew_acted, drop_occupied, drop_acted, sweep_whole, sweep_acted, clear_spacious, clear_acted}
 use Rattle.act.proofs.act.Goals as goal

@@ -1,6 +1,5 @@
 -- `act::fit` meets its contract.
 -- Assumes nothing.
-use mathlib.Core.Path.{◌∙◌}
 use Rattle.act.proofs.Placing.{fit_rich, fit_holds, fit_acted}
 use Rattle.act.proofs.fit.Goals as goal
 

@@ -1,7 +1,6 @@
 -- `act::hand_out` meets its contract: in each arm the plan is known, and what is written is what it hands out.
 -- Assumes nothing.
 use mathlib.Core.Path.{refl}
-use borrow.Author.Rules.{rules}
 use Rattle.act.proofs.Handing.{offered, no_rows, all_handed, back_handed, place_handed, replace_handed, fit_handed, sweep_handed, all_offered, back_offered, place_offered, replace_offered, fit_offered, sweep_offered}
 use Rattle.act.proofs.hand_out.Goals as goal
 

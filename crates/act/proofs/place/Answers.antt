@@ -1,6 +1,5 @@
 -- `act::place` meets its contract.
 -- Assumes nothing.
-use mathlib.Core.Path.{◌∙◌}
 use Rattle.act.proofs.Placing.{place_rich, place_admits, place_acted}
 use Rattle.act.proofs.place.Goals as goal
 

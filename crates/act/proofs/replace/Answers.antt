@@ -1,6 +1,5 @@
 -- `act::replace` meets its contract.
 -- Assumes nothing.
-use mathlib.Core.Path.{◌∙◌}
 use Rattle.act.proofs.Placing.{replace_occupied, replace_prepared, replace_acted}
 use Rattle.act.proofs.replace.Goals as goal
 

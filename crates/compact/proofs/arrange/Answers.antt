@@ -1,6 +1,5 @@
 -- `compact::arrange` meets its contract.
 -- Assumes nothing.
-use borrow.Author.Rules.{rules}
 use Rattle.compact.proofs.Numbering.{numbered_plannable, arranged}
 use Rattle.compact.proofs.arrange.Goals as goal
 

@@ -1,9 +1,7 @@
 -- `compact::exchange` meets its contract. The invariant is `Midway`: what is left of the row does the rest.
 -- Assumes nothing.
 use Prim.Native.Nat.{◌-◌}
-use native.Mathlib.Omega.{arith}
-use borrow.Author.Rules.{rules}
-use Rattle.compact.proofs.Rows.{Midway, midway_first, midway_step, midway_last}
+use Rattle.compact.proofs.Rows.{Midway}
 use Rattle.compact.proofs.exchange.Given as goal
 
 abbrev pub invariant-loop-i : goal.invariant-loop-i

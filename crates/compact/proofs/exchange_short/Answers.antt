@@ -1,9 +1,7 @@
 -- `compact::exchange_short` meets its contract. As `exchange`, by the same laws.
 -- Assumes nothing.
-use Prim.Native.Nat.{◌-◌}
 use native.Mathlib.Omega.{arith}
-use borrow.Author.Rules.{rules}
-use Rattle.compact.proofs.Rows.{Midway, midway_first, midway_step, midway_last}
+use Rattle.compact.proofs.Rows.{midway_first, midway_step, midway_last}
 use Rattle.compact.proofs.exchange_short.Goals as goal
 
 pub loop-i-init : goal.loop-i-init

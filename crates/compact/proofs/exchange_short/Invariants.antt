@@ -1,9 +1,7 @@
 -- `compact::exchange_short` meets its contract. As `exchange`, by the same laws.
 -- Assumes nothing.
 use Prim.Native.Nat.{◌-◌}
-use native.Mathlib.Omega.{arith}
-use borrow.Author.Rules.{rules}
-use Rattle.compact.proofs.Rows.{Midway, midway_first, midway_step, midway_last}
+use Rattle.compact.proofs.Rows.{Midway}
 use Rattle.compact.proofs.exchange_short.Given as goal
 
 abbrev pub invariant-loop-i : goal.invariant-loop-i

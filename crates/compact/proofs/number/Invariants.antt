@@ -1,9 +1,7 @@
 -- `compact::number` meets its contract. The invariant is `Numbering`: what is written so far, and where the walk goes on.
 -- Assumes nothing.
 use Prim.Native.Nat.{◌-◌}
-use native.Mathlib.Omega.{arith}
-use mathlib.Core.Path.{◌∙◌}
-use Rattle.compact.proofs.Numbering.{Numbering, numbering_first, numbering_slot, numbering_step, numbering_last}
+use Rattle.compact.proofs.Numbering.{Numbering}
 use Rattle.compact.proofs.number.Given as goal
 
 abbrev pub invariant-loop-k : goal.invariant-loop-k

@@ -1,8 +1,7 @@
 -- `compact::plan` meets its contract. The invariant is `Planning`: the row so far, and where the entries of the places left stand.
 -- Assumes nothing.
 use Prim.Native.Nat.{◌-◌}
-use native.Mathlib.Omega.{arith}
-use Rattle.compact.proofs.Planning.{Planning, planning_first, planning_step, planning_last}
+use Rattle.compact.proofs.Planning.{Planning}
 use Rattle.compact.proofs.plan.Given as goal
 
 abbrev pub invariant-loop-i : goal.invariant-loop-i

@@ -1,6 +1,5 @@
 -- `compact::reorder` meets its contract.
 -- Assumes nothing.
-use mathlib.Core.Path.{◌∙◌}
 use Rattle.compact.proofs.Compacting.{compactable_walk, reorder_exchangeable, reorder_writable, reordered}
 use Rattle.compact.proofs.reorder.Goals as goal
 

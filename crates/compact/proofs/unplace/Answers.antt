@@ -1,10 +1,8 @@
 -- `compact::unplace` meets its contract. Each place that the loop has passed holds none.
 -- Assumes nothing.
-use Prim.Native.Nat.{◌-◌, ◌≤◌}
 use native.Mathlib.Omega.{arith}
-use mathlib.Core.Path.{◌≡◌, refl}
-use Rattle.head.specs.Bounds.{none_mark}
-use Rattle.compact.proofs.Writing.{Begun, begun_none, begun_more, begun_all}
+use mathlib.Core.Path.{refl}
+use Rattle.compact.proofs.Writing.{begun_none, begun_more, begun_all}
 use Rattle.compact.proofs.unplace.Goals as goal
 
 pub loop-i-init : goal.loop-i-init

@@ -1,10 +1,9 @@
 -- `compact::unplace` meets its contract. Each place that the loop has passed holds none.
 -- Assumes nothing.
 use Prim.Native.Nat.{◌-◌, ◌≤◌}
-use native.Mathlib.Omega.{arith}
-use mathlib.Core.Path.{◌≡◌, refl}
+use mathlib.Core.Path.{◌≡◌}
 use Rattle.head.specs.Bounds.{none_mark}
-use Rattle.compact.proofs.Writing.{Begun, begun_none, begun_more, begun_all}
+use Rattle.compact.proofs.Writing.{Begun}
 use Rattle.compact.proofs.unplace.Given as goal
 
 abbrev pub invariant-loop-i : goal.invariant-loop-i

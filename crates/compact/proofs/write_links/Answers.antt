@@ -1,8 +1,7 @@
 -- `compact::write_links` meets its contract. The invariant is `Writing`: each list as far as it is written.
 -- Assumes nothing.
-use Prim.Native.Nat.{◌-◌}
 use native.Mathlib.Omega.{arith}
-use Rattle.compact.proofs.Writing.{Writing, writing_first, writing_step, writing_last}
+use Rattle.compact.proofs.Writing.{writing_first, writing_step, writing_last}
 use Rattle.compact.proofs.write_links.Goals as goal
 
 pub loop-i-init : goal.loop-i-init

@@ -1,6 +1,5 @@
 -- `decide::admit` meets its contract.
 -- Assumes nothing.
-use Rattle.std.proofs.Common.{rules}
 use Rattle.decide.proofs.Leaves.{no_room, has_room}
 use Rattle.decide.proofs.admit.Goals as goal
 

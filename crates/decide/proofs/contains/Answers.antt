@@ -1,7 +1,6 @@
 -- `decide::contains` meets its contract.
 -- Assumes nothing.
 use Rattle.decide.proofs.Finding.{contains_none, contains_some}
-use Rattle.std.proofs.Common.{rules}
 use Rattle.decide.proofs.contains.Goals as goal
 
 pub returns-in_default : goal.returns-in_default

@@ -1,7 +1,6 @@
 -- `decide::enter` meets its contract.
 -- Assumes nothing.
 use Rattle.decide.proofs.Leaves.{enters}
-use Rattle.std.proofs.Common.{rules}
 use Rattle.decide.proofs.enter.Goals as goal
 
 pub returns : goal.returns

@@ -2,7 +2,6 @@
 -- Assumes nothing.
 use Rattle.decide.proofs.Pointing.{found_reached}
 use Rattle.decide.proofs.Finding.{says, on_plain_lem, not_plain, if_absent, renew_found}
-use Rattle.std.proofs.Common.{rules}
 use Rattle.decide.proofs.get_mut.Goals as goal
 
 pub returns-then-head-ne-PLAIN : goal.returns-then-head-ne-PLAIN

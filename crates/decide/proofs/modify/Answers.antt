@@ -1,7 +1,6 @@
 -- `decide::modify` meets its contract.
 -- Assumes nothing.
 use Rattle.decide.proofs.Leaves.{modifies}
-use Rattle.std.proofs.Common.{rules}
 use Rattle.decide.proofs.modify.Goals as goal
 
 pub returns : goal.returns

@@ -2,7 +2,6 @@
 -- Assumes nothing.
 use Rattle.decide.proofs.Pointing.{found_reached}
 use Rattle.decide.proofs.Finding.{says, if_absent, peek_found}
-use Rattle.std.proofs.Common.{rules}
 use Rattle.decide.proofs.peek.Goals as goal
 
 pub returns-in_default : goal.returns-in_default

@@ -1,6 +1,5 @@
 -- `decide::pop_end` meets its contract.
 -- Assumes nothing.
-use Rattle.std.proofs.Common.{rules}
 use Rattle.store.specs.State.{fields}
 use Rattle.decide.proofs.Leaves.{popped_none, popped_entry}
 use Rattle.decide.proofs.pop_end.Goals as goal

@@ -1,6 +1,5 @@
 -- `decide::pushing` meets its contract.
 -- Assumes nothing.
-use Rattle.std.proofs.Common.{rules}
 use Rattle.decide.proofs.Leaves.{pushes_one, pushes_none}
 use Rattle.decide.proofs.pushing.Goals as goal
 

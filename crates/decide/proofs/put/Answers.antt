@@ -3,7 +3,6 @@
 use Rattle.decide.proofs.Pointing.{found_reached}
 use Rattle.decide.proofs.Finding.{on_plain_lem, not_plain, renew_found}
 use Rattle.decide.proofs.Putting.{put_none}
-use Rattle.std.proofs.Common.{rules}
 use Rattle.decide.proofs.put.Goals as goal
 
 pub returns-then-head-ne-PLAIN : goal.returns-then-head-ne-PLAIN

@@ -3,7 +3,6 @@
 use Rattle.decide.proofs.Pointing.{found_reached}
 use Rattle.decide.proofs.Finding.{not_plain}
 use Rattle.decide.proofs.Putting.{modify_none, modify_found}
-use Rattle.std.proofs.Common.{rules}
 use Rattle.decide.proofs.put_or_modify.Goals as goal
 
 pub returns-then-head-ne-PLAIN : goal.returns-then-head-ne-PLAIN

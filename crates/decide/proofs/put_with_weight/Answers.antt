@@ -2,7 +2,6 @@
 -- Assumes nothing.
 use Rattle.decide.proofs.Pointing.{reaches, found_reached}
 use Rattle.decide.proofs.Weighing.{loaded_budgeted, loaded_but, wrong_kind_lem, too_heavy_lem, weighed_none, weighed_found}
-use Rattle.std.proofs.Common.{rules}
 use Rattle.decide.proofs.put_with_weight.Goals as goal
 
 pub returns-then-wrong_weight : goal.returns-then-wrong_weight

@@ -1,9 +1,7 @@
 -- `decide::resize` meets its contract.
 -- Assumes nothing.
 use Rattle.rows.proofs.Callers.{budgeted}
-use borrow.Author.Tests.{not-true, not-false}
 use Rattle.decide.proofs.Weighing.{no_capacity_lem, resize_settles}
-use Rattle.std.proofs.Common.{rules}
 use Rattle.decide.proofs.resize.Goals as goal
 
 pub returns-then-not-capacity_ok : goal.returns-then-not-capacity_ok

@@ -1,7 +1,6 @@
 -- `decide::retain` meets its contract.
 -- Assumes nothing.
 use Rattle.decide.proofs.Weighing.{no_rule_lem, retain_settles}
-use Rattle.std.proofs.Common.{rules}
 use Rattle.decide.proofs.retain.Goals as goal
 
 pub returns-then-rule-gt-WEIGHT : goal.returns-then-rule-gt-WEIGHT

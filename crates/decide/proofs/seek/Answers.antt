@@ -1,7 +1,6 @@
 -- `decide::seek` meets its contract.
 -- Assumes nothing.
 use Rattle.decide.proofs.Wanting.{nothing_sought, code_sought}
-use Rattle.std.proofs.Common.{rules}
 use Rattle.decide.proofs.seek.Goals as goal
 
 pub returns-in_default : goal.returns-in_default

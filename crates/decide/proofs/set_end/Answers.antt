@@ -1,7 +1,6 @@
 -- `decide::set_end` meets its contract.
 -- Assumes nothing.
 use Rattle.decide.proofs.Leaves.{assigned_weighed, assigned_none, assigned_value}
-use Rattle.std.proofs.Common.{rules}
 use Rattle.decide.proofs.set_end.Goals as goal
 
 pub returns-then-kind-ne-PLAIN : goal.returns-then-kind-ne-PLAIN

@@ -1,6 +1,5 @@
 -- `decide::show` meets its contract.
 -- Assumes nothing.
-use Rattle.std.proofs.Common.{rules}
 use Rattle.store.specs.State.{fields}
 use Rattle.decide.proofs.Leaves.{shown_none, shown_entry}
 use Rattle.decide.proofs.show.Goals as goal

@@ -3,7 +3,6 @@
 use Rattle.decide.proofs.Pointing.{found_reached}
 use Rattle.decide.proofs.Finding.{not_plain}
 use Rattle.decide.proofs.Putting.{try_none_over, try_none, try_found_over, try_found}
-use Rattle.std.proofs.Common.{rules}
 use Rattle.decide.proofs.try_put_or_modify.Goals as goal
 
 pub returns-then-head-ne-PLAIN : goal.returns-then-head-ne-PLAIN

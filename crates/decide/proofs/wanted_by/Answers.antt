@@ -1,6 +1,6 @@
 -- `decide::wanted_by` meets its contract.
 -- Assumes nothing.
-use Rattle.std.proofs.Common.{refl, rules}
+use Rattle.std.proofs.Common.{refl}
 use Rattle.decide.specs.Wants.{wanted_by}
 use Rattle.decide.proofs.Wanting.{wanted_as, none_wanted}
 use Rattle.decide.proofs.wanted_by.Goals as goal

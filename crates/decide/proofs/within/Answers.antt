@@ -1,6 +1,5 @@
 -- `decide::within` meets its contract.
 -- Assumes nothing.
-use Rattle.std.proofs.Common.{rules}
 use Rattle.decide.proofs.Leaves.{too_few, few_enough}
 use Rattle.decide.proofs.within.Goals as goal
 

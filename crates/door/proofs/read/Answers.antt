@@ -5,7 +5,6 @@ use mathlib.Core.Bool.{not}
 use Rattle.door.specs.Served.{is_reader}
 use Rattle.door.proofs.Deciding.{decided, sound_found, none_found, form_taken, form_other}
 use Rattle.door.proofs.Serving.{reads, reads_none, reads_other}
-use borrow.Author.Rules.{rules}
 use Rattle.door.proofs.read.Goals as goal
 
 pub returns-then-not-inspect : goal.returns-then-not-inspect

@@ -2,10 +2,8 @@
 -- Assumes nothing.
 use mathlib.Core.Path.{ap}
 use mathlib.Core.Bool.{not}
-use mathlib.Core.Path.{refl}
 use Rattle.door.proofs.Deciding.{decided, prepared, sound_found, none_found}
 use Rattle.door.proofs.Serving.{serves, serves_none}
-use borrow.Author.Rules.{rules}
 use Rattle.door.proofs.serve.Goals as goal
 
 pub returns-then-not-inspect : goal.returns-then-not-inspect

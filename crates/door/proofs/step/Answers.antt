@@ -2,7 +2,6 @@
 -- Assumes nothing.
 use Rattle.door.proofs.Deciding.{decided, prepared, offered, lent_by}
 use Rattle.door.proofs.Serving.{calls}
-use borrow.Author.Rules.{rules}
 use Rattle.door.proofs.step.Goals as goal
 
 pub decide-decision-requires : goal.decide-decision-requires

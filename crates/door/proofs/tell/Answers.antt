@@ -5,7 +5,6 @@ use mathlib.Core.Bool.{not}
 use Rattle.door.specs.Served.{is_teller}
 use Rattle.door.proofs.Deciding.{decided, offered, lent_by, sound_found, none_found, form_taken, form_other}
 use Rattle.door.proofs.Serving.{tells, tells_none, tells_other}
-use borrow.Author.Rules.{rules}
 use Rattle.door.proofs.tell.Goals as goal
 
 pub returns-then-not-inspect : goal.returns-then-not-inspect

@@ -1,6 +1,5 @@
 -- `exports::put_opened` meets its contract.
 -- Assumes nothing.
-use borrow.Author.Rules.{rules}
 use Rattle.exports.proofs.Exchanged.{opened_began, opened_none}
 use Rattle.exports.proofs.put_opened.Goals as goal
 

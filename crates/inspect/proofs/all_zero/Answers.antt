@@ -1,8 +1,7 @@
 -- `inspect::all_zero` meets its contract: the invariant is `Together` of `proofs/Bits.antt`. The measure: numbers not taken yet.
 -- Assumes nothing.
-use Prim.Native.Nat.{◌≤◌, ◌-◌}
 use native.Mathlib.Omega.{arith}
-use Rattle.inspect.proofs.Bits.{Together, at, together_start, together_more, zeros_end}
+use Rattle.inspect.proofs.Bits.{together_start, together_more, zeros_end}
 use Rattle.inspect.proofs.all_zero.Goals as goal
 
 pub loop-k-init : goal.loop-k-init

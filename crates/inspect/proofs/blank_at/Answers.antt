@@ -3,7 +3,6 @@
 use borrow.Author.Tests.{eq-eqb, ne_eqb}
 use Rattle.inspect.specs.Tests.{blank_at}
 use Rattle.inspect.proofs.Blanks.{blank_last}
-use borrow.Author.Rules.{rules}
 use Rattle.inspect.proofs.blank_at.Goals as goal
 
 pub returns-then-codes-i-ne0 : goal.returns-then-codes-i-ne0

@@ -1,8 +1,7 @@
 -- `inspect::cells_full` meets its contract: the invariant is `Tallying` of `proofs/Counts.antt`. The measure: cells not counted yet.
 -- Assumes nothing.
 use Prim.Native.Nat.{◌-◌, ◌*◌}
-use native.Mathlib.Omega.{arith}
-use Rattle.inspect.proofs.Counts.{Tallying, one_full, one_below, tally_start, tally_more, tally_stray, tally_all}
+use Rattle.inspect.proofs.Counts.{Tallying}
 use Rattle.inspect.proofs.cells_full.Given as goal
 
 abbrev pub invariant-loop-i : goal.invariant-loop-i

@@ -1,10 +1,9 @@
 -- `inspect::head_ok` meets its contract: each return rewrites with the tests that led there.
 -- Assumes nothing.
 use mathlib.Core.Path.{◌∙◌, sym}
-use borrow.Author.Tests.{le-leb, lt-leb, ne_eqb, not-true, not-false}
+use borrow.Author.Tests.{le-leb, lt-leb, ne_eqb}
 use Rattle.inspect.specs.Tests.{head_ok}
 use Rattle.inspect.proofs.Numbers.{head_plain}
-use borrow.Author.Rules.{rules}
 use Rattle.inspect.proofs.head_ok.Goals as goal
 
 pub returns-then-not-allows : goal.returns-then-not-allows

@@ -2,9 +2,6 @@
 -- Assumes nothing.
 use mathlib.Core.Path.{◌≡◌, ◌∙◌, sym, ap}
 use mathlib.Core.Bool.{true, not}
-use borrow.Author.Rules.{rules}
-use borrow.Author.Tests.{not-false}
-use Rattle.head.specs.Fields.{Fields}
 use Rattle.store.specs.State.{fields}
 use Rattle.inspect.proofs.Decided as decided
 use Rattle.inspect.proofs.inspect.Goals as goal

@@ -1,9 +1,7 @@
 -- `inspect::links_ok` meets its contract, as `list::inspect_links` does.
 -- Assumes nothing.
-use borrow.Author.Rules.{rules}
 use mathlib.Core.Path.{◌∙◌, sym}
 use native.Mathlib.Omega.{arith}
-use borrow.Author.Tests.{not-true, not-false}
 use Rattle.list.proofs.Decide.{numbers, answer_1, answer_2, answer_3, answer_4}
 use Rattle.inspect.proofs.links_ok.Goals as goal
 

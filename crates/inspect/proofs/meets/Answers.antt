@@ -1,10 +1,7 @@
 -- `inspect::meets` meets its contract: the invariant and the steps are those of `proofs/Ends.antt`. The measure: slots between the two ends.
 -- Assumes nothing.
-use Prim.Native.Nat.{◌≤◌}
 use native.Mathlib.Omega.{arith}
-use lib.ListN.{get_or}
-use Rattle.list.specs.Inspect.{walk_ok}
-use Rattle.inspect.proofs.Ends.{Meeting, apart, far_a, far_b, loose_a, loose_b, nearer, meet_one, meet_apart, meet_two}
+use Rattle.inspect.proofs.Ends.{apart, far_a, far_b, loose_a, loose_b, nearer, meet_one, meet_apart, meet_two}
 use Rattle.inspect.proofs.meets.Goals as goal
 
 pub loop-left-init : goal.loop-left-init

@@ -1,8 +1,7 @@
 -- `inspect::none_from` meets its contract: the invariant is `Together` of `proofs/Bits.antt`. The measure: places not taken yet.
 -- Assumes nothing.
 use Prim.Native.Nat.{◌≤◌, ◌-◌}
-use native.Mathlib.Omega.{arith}
-use Rattle.inspect.proofs.Bits.{Together, unlike, together_start, together_more, nones_end}
+use Rattle.inspect.proofs.Bits.{Together, unlike}
 use Rattle.inspect.proofs.none_from.Given as goal
 
 abbrev pub invariant-loop-k : goal.invariant-loop-k

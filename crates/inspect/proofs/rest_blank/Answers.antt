@@ -1,13 +1,8 @@
 -- `inspect::rest_blank` meets its contract. The invariant: the whole test is the test from here on. The measure: slots not tested yet.
 -- Assumes nothing.
-use Prim.Native.Nat.{◌≤◌, ◌-◌}
-use mathlib.Core.Path.{◌≡◌, ◌∙◌, sym, refl}
+use mathlib.Core.Path.{◌∙◌, sym, refl}
 use native.Mathlib.Omega.{arith}
-use borrow.Author.Tests.{not-true, not-false}
-use Rattle.list.specs.Inspect.{all_from}
 use Rattle.list.proofs.Tests.{all_fail, all_more, all_end}
-use Rattle.store.specs.State.{fields}
-use Rattle.inspect.specs.Tests.{blank_at}
 use Rattle.inspect.proofs.rest_blank.Goals as goal
 
 pub loop-k-init : goal.loop-k-init

@@ -1,12 +1,8 @@
 -- `inspect::stack_blank` meets its contract. The invariant: the whole test is the test from here on. The measure: places not tested yet.
 -- Assumes nothing.
-use Prim.Native.Nat.{◌≤◌, ◌-◌}
-use mathlib.Core.Path.{◌≡◌, ◌∙◌, sym}
+use mathlib.Core.Path.{◌∙◌, sym}
 use native.Mathlib.Omega.{arith}
-use borrow.Author.Tests.{not-true, not-false}
-use Rattle.list.specs.Inspect.{all_from}
 use Rattle.list.proofs.Tests.{all_fail, all_more, all_end, all_start}
-use Rattle.store.specs.State.{fields}
 use Rattle.inspect.specs.Tests.{stack_blank}
 use Rattle.inspect.proofs.stack_blank.Goals as goal
 

@@ -1,7 +1,6 @@
 -- `inspect::stack_ok` meets its contract: the two parts of `proofs/Parts.antt`.
 -- Assumes nothing.
 use native.Mathlib.Omega.{arith}
-use borrow.Author.Tests.{not-true, not-false}
 use Rattle.inspect.proofs.Parts.{low_fails, high_decides}
 use Rattle.inspect.proofs.stack_ok.Goals as goal
 

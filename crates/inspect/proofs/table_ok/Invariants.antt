@@ -1,12 +1,9 @@
 -- `inspect::table_ok` meets its contract. The invariant: the whole test is the test from here on. The measure: slots not tested yet.
 -- Assumes nothing.
 use Prim.Native.Nat.{◌≤◌, ◌-◌, ◌*◌}
-use mathlib.Core.Path.{◌≡◌, ◌∙◌, sym}
-use native.Mathlib.Omega.{arith}
-use borrow.Author.Tests.{not-true, not-false}
+use mathlib.Core.Path.{◌≡◌}
 use Rattle.crc.specs.Home.{home_of}
 use Rattle.list.specs.Inspect.{all_from}
-use Rattle.list.proofs.Tests.{all_fail, all_more, all_end, all_start}
 use Rattle.inspect.specs.Tests.{used_stands}
 use Rattle.inspect.proofs.table_ok.Given as goal
 

@@ -2,7 +2,6 @@
 -- Assumes nothing.
 use mathlib.Core.Path.{◌∙◌, sym}
 use native.Mathlib.Omega.{arith}
-use borrow.Author.Rules.{rules}
 use Rattle.inspect.proofs.Used.{used_none, used_some, home_below, home_stands}
 use Rattle.inspect.proofs.used_stands.Goals as goal
 

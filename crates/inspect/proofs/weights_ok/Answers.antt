@@ -1,7 +1,6 @@
 -- `inspect::weights_ok` meets its contract. The invariant: the whole test is the test from here on. The measure: slots not weighed yet.
 -- Assumes nothing.
-use Prim.Native.Nat.{◌≤◌, ◌-◌}
-use mathlib.Core.Path.{◌≡◌, ◌∙◌, sym, ap}
+use mathlib.Core.Path.{◌∙◌, sym, ap}
 use native.Mathlib.Omega.{arith}
 use Rattle.inspect.specs.Tests.{sum_ok}
 use Rattle.inspect.proofs.Sums.{sum_heavy, sum_more, sum_end, sum_start, zero_sum}

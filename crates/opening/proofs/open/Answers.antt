@@ -1,11 +1,9 @@
 -- `opening::open` meets its contract.
 -- Assumes nothing.
 use mathlib.Core.Path.{refl, sym, ◌∙◌}
-use borrow.Author.Tests.{not-true, not-false}
 use Rattle.head.specs.Fresh.{fresh_head}
 use Rattle.plan.specs.States.{state}
 use Rattle.opening.proofs.Beginning.{opens_not_allowed, opens_too_short, fresh_spacious, opens_fresh}
-use borrow.Author.Rules.{rules}
 use Rattle.opening.proofs.open.Goals as goal
 
 pub returns-then-not-allows : goal.returns-then-not-allows

@@ -1,8 +1,7 @@
 -- `records::call_within` meets its contract.
 -- Assumes nothing.
-use borrow.Author.Rules.{rules}
 use native.Mathlib.Omega.{arith}
-use Rattle.records.proofs.Cutting.{counted, as_long, calls_within}
+use Rattle.records.proofs.Cutting.{counted, calls_within}
 use Rattle.records.proofs.call_within.Goals as goal
 
 pub slice_bounds-call-end : goal.slice_bounds-call-end

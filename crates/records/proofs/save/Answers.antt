@@ -1,6 +1,6 @@
 -- `records::save` meets its contract: each turn writes one more row.
 -- Assumes nothing.
-use Rattle.std.proofs.Common.{◌≡◌, List, set, refl, ap, arith, add-one}
+use Rattle.std.proofs.Common.{List, set, refl, ap, arith, add-one}
 use Rattle.head.specs.declared.Row.{Row}
 use Rattle.store.specs.State.{fields, entry_in}
 use Rattle.records.specs.Saving.{copied}

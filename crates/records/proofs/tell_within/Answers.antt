@@ -1,8 +1,7 @@
 -- `records::tell_within` meets its contract.
 -- Assumes nothing.
-use borrow.Author.Rules.{rules}
 use native.Mathlib.Omega.{arith}
-use Rattle.records.proofs.Cutting.{counted, as_long, tells_within}
+use Rattle.records.proofs.Cutting.{counted, tells_within}
 use Rattle.records.proofs.tell_within.Goals as goal
 
 pub slice_bounds-tell-end : goal.slice_bounds-tell-end

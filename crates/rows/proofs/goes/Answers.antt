@@ -1,7 +1,6 @@
 -- `rows::goes` meets its contract.
 -- Assumes nothing.
 use mathlib.Core.Path.{sym, ◌∙◌}
-use borrow.Author.Rules.{rules}
 use Rattle.rows.proofs.goes.Goals as goal
 
 pub returns-then-keeps : goal.returns-then-keeps

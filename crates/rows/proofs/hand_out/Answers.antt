@@ -2,7 +2,6 @@
 -- Assumes nothing.
 use mathlib.Core.Bool.{true≢false}
 use mathlib.Core.Path.{refl, sym, ◌∙◌}
-use borrow.Author.Rules.{rules}
 use Rattle.rows.proofs.hand_out.Goals as goal
 
 pub returns-then-keeps : goal.returns-then-keeps

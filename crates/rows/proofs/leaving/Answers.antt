@@ -1,7 +1,7 @@
 -- `rows::leaving` meets its contract: the loop of `proofs/Dropping.antt`. The measure is what is left, which falls by a cost of one or more.
 -- Assumes nothing.
 use native.Mathlib.Omega.{arith}
-use Rattle.rows.proofs.Dropping.{Dropping, Ready, drop_start, drop_inside, drop_ready, drop_step, drop_end, budget_countable, budget_stocked}
+use Rattle.rows.proofs.Dropping.{Ready, drop_start, drop_inside, drop_ready, drop_step, drop_end, budget_countable, budget_stocked}
 use Rattle.rows.proofs.leaving.Goals as goal
 use Rattle.rows.proofs.leaving.Goals.{After-past-here}
 

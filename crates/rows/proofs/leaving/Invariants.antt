@@ -1,7 +1,6 @@
 -- `rows::leaving` meets its contract: the loop of `proofs/Dropping.antt`. The measure is what is left, which falls by a cost of one or more.
 -- Assumes nothing.
-use native.Mathlib.Omega.{arith}
-use Rattle.rows.proofs.Dropping.{Dropping, Ready, drop_start, drop_inside, drop_ready, drop_step, drop_end, budget_countable, budget_stocked}
+use Rattle.rows.proofs.Dropping.{Dropping}
 use Rattle.rows.proofs.leaving.Given as goal
 
 abbrev pub invariant-loop-left : goal.invariant-loop-left

@@ -1,7 +1,6 @@
 -- `rows::past` meets its contract.
 -- Assumes nothing.
 use borrow.Author.Tests.{eq-eqb, ne_eqb}
-use borrow.Author.Rules.{rules}
 use Rattle.rows.proofs.past.Goals as goal
 
 pub returns-then-slot-skip : goal.returns-then-slot-skip

@@ -1,8 +1,7 @@
 -- `rows::removed_by` meets its contract: the counting loop of `proofs/Sweeping.antt`. The measure is what is left to ask.
 -- Assumes nothing.
 use native.Mathlib.Omega.{arith}
-use Rattle.store.specs.State.{fields}
-use Rattle.rows.proofs.Sweeping.{Counting, count_start, count_step, count_end, count_fits, ahead_readable, ahead_linked}
+use Rattle.rows.proofs.Sweeping.{count_start, count_step, count_end, count_fits, ahead_readable, ahead_linked}
 use Rattle.rows.proofs.removed_by.Goals as goal
 
 pub loop-left-init : goal.loop-left-init

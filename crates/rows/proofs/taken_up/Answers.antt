@@ -2,7 +2,6 @@
 -- Assumes nothing.
 use native.Mathlib.Omega.{arith}
 use borrow.Author.Tests.{eq-eqb, ne_eqb}
-use borrow.Author.Rules.{rules}
 use Rattle.rows.proofs.taken_up.Goals as goal
 
 pub returns-then-skip-eq-NONE : goal.returns-then-skip-eq-NONE

@@ -1,7 +1,6 @@
 -- `rows::write_all` meets its contract: the rule that keeps none removes all.
 -- Assumes nothing.
 use Rattle.rows.proofs.Listing.{no_stamp_lem, all_swept, all_wrote}
-use borrow.Author.Rules.{rules}
 use Rattle.rows.proofs.write_all.Goals as goal
 
 pub write_removed-requires : goal.write_removed-requires

@@ -1,7 +1,6 @@
 -- `rows::write_all_back` meets its contract: all are as many as the oldest, and no slot is skipped.
 -- Assumes nothing.
 use Rattle.rows.proofs.Listing.{back_aged, back_wrote}
-use borrow.Author.Rules.{rules}
 use Rattle.rows.proofs.write_all_back.Goals as goal
 
 pub write_oldest-requires : goal.write_oldest-requires

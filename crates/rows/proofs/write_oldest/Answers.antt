@@ -1,9 +1,7 @@
 -- `rows::write_oldest` meets its contract: the loop of `proofs/Ageing.antt`. The measure is what is left to write.
 -- Assumes nothing.
-use Prim.Native.Nat.{◌-◌}
 use native.Mathlib.Omega.{arith}
-use Rattle.store.specs.State.{fields}
-use Rattle.rows.proofs.Ageing.{Ageing, age_start, age_inside, age_readable, age_linked, age_room, age_small, age_step, age_end}
+use Rattle.rows.proofs.Ageing.{age_start, age_inside, age_readable, age_linked, age_room, age_small, age_step, age_end}
 use Rattle.rows.proofs.write_oldest.Goals as goal
 
 pub loop-j-init : goal.loop-j-init

@@ -1,8 +1,7 @@
 -- `rows::write_removed` meets its contract: the writing loop of `proofs/Sweeping.antt`. The measure is what is left to ask.
 -- Assumes nothing.
 use native.Mathlib.Omega.{arith}
-use Rattle.store.specs.State.{fields}
-use Rattle.rows.proofs.Sweeping.{Sweeping, sweep_start, sweep_offered, sweep_step, sweep_end, ahead_readable, ahead_linked}
+use Rattle.rows.proofs.Sweeping.{sweep_start, sweep_offered, sweep_step, sweep_end, ahead_readable, ahead_linked}
 use Rattle.rows.proofs.write_removed.Goals as goal
 
 pub loop-left-init : goal.loop-left-init

@@ -2,7 +2,6 @@
 -- Assumes nothing.
 use mathlib.Core.Path.{refl}
 use Rattle.script_turn.proofs.Turning.{begun_as}
-use borrow.Author.Rules.{rules}
 use Rattle.script_turn.proofs.begin.Goals as goal
 
 pub returns-in-Cache : goal.returns-in-Cache

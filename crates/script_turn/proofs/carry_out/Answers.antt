@@ -2,7 +2,6 @@
 -- Assumes nothing.
 use mathlib.Core.Path.{refl}
 use Rattle.script_turn.proofs.Turning.{opening_turns, turn_open, turn_call, turn_unknown}
-use borrow.Author.Rules.{rules}
 use Rattle.script_turn.proofs.carry_out.Goals as goal
 
 pub returns-in-Open : goal.returns-in-Open

@@ -3,7 +3,6 @@
 use mathlib.Core.Path.{refl, ap, ◌∙◌}
 use Rattle.script_turn.specs.Replies.{is_listing}
 use Rattle.script_turn.proofs.Replying.{lists_as}
-use borrow.Author.Rules.{rules}
 use Rattle.script_turn.proofs.lists.Goals as goal
 
 pub returns-in-Open : goal.returns-in-Open

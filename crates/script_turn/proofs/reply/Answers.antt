@@ -2,7 +2,6 @@
 -- Assumes nothing.
 use Rattle.store.specs.State.{fields}
 use Rattle.script_turn.proofs.Replying.{shown_as, roomy_as, closing_room, replied_as}
-use borrow.Author.Rules.{rules}
 use Rattle.script_turn.proofs.reply.Goals as goal
 
 pub write_rows-at-requires : goal.write_rows-at-requires

@@ -2,7 +2,6 @@
 -- Assumes nothing.
 use Rattle.store.specs.State.{fields}
 use Rattle.script_turn.proofs.Replying.{taken_room, took}
-use borrow.Author.Rules.{rules}
 use Rattle.script_turn.proofs.take.Goals as goal
 
 pub understand-line-requires : goal.understand-line-requires

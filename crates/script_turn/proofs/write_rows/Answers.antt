@@ -1,10 +1,7 @@
 -- `script_turn::write_rows` meets its contract. The measure is how many rows are left.
 -- Assumes nothing.
-use Prim.Native.Nat.{◌-◌}
 use native.Mathlib.Omega.{arith}
-use Rattle.store.specs.State.{fields}
-use Rattle.script_digits.proofs.Laying.{laid_size}
-use Rattle.script_turn.proofs.Replying.{Writing, writing_start, row_there, writing_room, writing_step, writing_end}
+use Rattle.script_turn.proofs.Replying.{writing_start, row_there, writing_room, writing_step, writing_end}
 use Rattle.script_turn.proofs.write_rows.Goals as goal
 
 pub loop-j-init : goal.loop-j-init

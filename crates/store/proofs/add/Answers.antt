@@ -1,6 +1,5 @@
 -- `store::add` meets its contract: the slot that the list gives is written, then put into the table.
 -- Assumes nothing.
-use borrow.Author.Rules.{rules}
 use Rattle.store.proofs.Writing.{admits_open, admits_writable, admits_slotted, added_ok}
 use Rattle.store.proofs.add.Goals as goal
 

@@ -1,6 +1,5 @@
 -- `store::empty` meets its contract.
 -- Assumes nothing.
-use borrow.Author.Rules.{rules}
 use Rattle.store.proofs.Emptied.{emptied_ok}
 use Rattle.store.proofs.empty.Goals as goal
 

@@ -1,9 +1,7 @@
 -- `store::evict` meets its contract: what has left so far, with what is still to leave, is what was to leave. The measure is what is left to do.
 -- Assumes nothing.
-use Prim.Native.Nat.{◌-◌}
 use native.Mathlib.Omega.{arith}
-use Rattle.store.specs.State.{fields}
-use Rattle.store.proofs.Evicting.{Evicting, rich_small, evict_start, evict_occupied, evict_step, evict_end}
+use Rattle.store.proofs.Evicting.{rich_small, evict_start, evict_occupied, evict_step, evict_end}
 use Rattle.store.proofs.evict.Goals as goal
 
 pub loop-j-init : goal.loop-j-init

@@ -1,6 +1,5 @@
 -- `store::long_enough` meets its contract: each return rewrites with the tests that led there.
 -- Assumes nothing.
-use borrow.Author.Rules.{rules}
 use borrow.Author.Tests.{le-leb, lt-leb}
 use Rattle.store.proofs.long_enough.Goals as goal
 

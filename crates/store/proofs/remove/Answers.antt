@@ -1,6 +1,5 @@
 -- `store::remove` meets its contract: out of the table, its fields zeroed, on the stack.
 -- Assumes nothing.
-use borrow.Author.Rules.{rules}
 use native.Mathlib.Omega.{arith}
 use mathlib.Core.Path.{refl}
 use Rattle.store.proofs.Writing.{occupied_writable, occupied_weight, occupied_live, occupied_held, dropped_ok}

@@ -1,6 +1,5 @@
 -- `store::resize` meets its contract: a shrink makes the table anew along the new links, anything else leaves it.
 -- Assumes nothing.
-use borrow.Author.Rules.{rules}
 use Rattle.store.proofs.Resizing.{holds_resizable, shrunk_keyed, capped_shrunk, capped_stayed}
 use Rattle.store.proofs.resize.Goals as goal
 

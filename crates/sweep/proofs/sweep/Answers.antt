@@ -1,12 +1,10 @@
 -- `sweep::sweep` meets its contract. The measure is how many entries are still to look at.
 -- Assumes nothing.
 use mathlib.Core.Path.{ap, ◌∙◌}
-use borrow.Author.Rules.{rules}
 use native.Mathlib.Omega.{arith}
 use Rattle.model.specs.Desk.{keeps}
-use Rattle.store.specs.State.{fields}
 use Rattle.store.proofs.Writing.{occupied_writable}
-use Rattle.sweep.proofs.Looking.{Sweeping, sweep_start, sweep_linked, sweep_occupied, sweep_step, sweep_end}
+use Rattle.sweep.proofs.Looking.{sweep_start, sweep_linked, sweep_occupied, sweep_step, sweep_end}
 use Rattle.sweep.proofs.sweep.Goals as goal
 
 pub loop-left-init : goal.loop-left-init

@@ -3,7 +3,6 @@
 use mathlib.Core.Path.{sym}
 use mathlib.Core.Logic.{⊎_elim}
 use native.Mathlib.Omega.{arith}
-use borrow.Author.Rules.{rules}
 use Rattle.table.proofs.Ring.{next_cases}
 use Rattle.table.proofs.after.Goals as goal
 

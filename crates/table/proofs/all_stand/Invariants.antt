@@ -1,14 +1,10 @@
 -- `table::all_stand` meets its contract: the invariant and the steps are those of `proofs/Checked.antt`. The measure: slots not asked yet.
 -- Assumes nothing.
-use mathlib.Core.Path.{refl}
-use Prim.Native.Nat.{◌-◌, ◌*◌, ◌<◌}
-use native.Mathlib.Omega.{arith}
-use borrow.Author.Tests.{not-true, not-false}
-use lib.ListN.{length}
+use Prim.Native.Nat.{◌-◌, ◌*◌}
 use Rattle.crc.specs.Home.{home_of}
 use Rattle.head.specs.Walks.{walk}
 use Rattle.table.specs.Acts.{all_standing}
-use Rattle.table.proofs.Checked.{Asking, ask_start, ask_end, ask_coded, ask_no, ask_on}
+use Rattle.table.proofs.Checked.{Asking}
 use Rattle.table.proofs.all_stand.Given as goal
 
 abbrev pub invariant-loop-i : goal.invariant-loop-i

@@ -1,6 +1,5 @@
 -- `table::as_many` meets its contract: the count is the definition's.
 -- Assumes nothing.
-use borrow.Author.Rules.{rules}
 use Rattle.table.proofs.Tallies.{counts_stray, counts_same}
 use Rattle.table.proofs.as_many.Goals as goal
 

@@ -1,11 +1,9 @@
 -- `table::clear` meets its contract: a loop that fills from the front.
 -- Assumes nothing.
-use mathlib.Core.Path.{◌≡◌, refl, ap, ◌∙◌}
+use mathlib.Core.Path.{◌≡◌}
 use mathlib.Core.List.{List, ◌++◌}
-use Prim.Native.Nat.{ℕ, ◌+◌, ◌-◌, ◌≤◌, ◌<◌}
-use native.Mathlib.Omega.{arith}
-use borrow.Author.Fill.{fill_none, fill_more}
-use lib.ListN.{length, drop, set, replicate, length-set}
+use Prim.Native.Nat.{ℕ, ◌-◌, ◌≤◌}
+use lib.ListN.{length, drop, replicate}
 use Rattle.head.specs.Bounds.{none_mark}
 use Rattle.table.proofs.clear.Given as goal
 

@@ -1,9 +1,8 @@
 -- `table::count_full` meets its contract: the loop's steps are those of `proofs/Tallies.antt`.
 -- Assumes nothing.
 use Prim.Native.Nat.{◌-◌, ◌≤◌}
-use native.Mathlib.Omega.{arith}
 use lib.ListN.{length}
-use Rattle.table.proofs.Tallies.{Counting, count_none, count_some, count_start, counted_all, counted_stray}
+use Rattle.table.proofs.Tallies.{Counting}
 use Rattle.table.proofs.count_full.Given as goal
 
 abbrev pub invariant-loop-i : goal.invariant-loop-i

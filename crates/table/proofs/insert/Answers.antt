@@ -8,7 +8,6 @@ use Rattle.crc.proofs.Homes.{home_lt}
 use Rattle.table.specs.declared.Search.{Search}
 use Rattle.table.specs.Acts.{placed}
 use Rattle.table.proofs.Found.{empty_at, seen}
-use borrow.Author.Rules.{rules}
 use Rattle.table.proofs.insert.Goals as goal
 use Rattle.table.proofs.insert.Goals.{In-Empty}
 

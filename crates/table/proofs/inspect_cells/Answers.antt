@@ -3,8 +3,6 @@
 use mathlib.Core.Path.{sym, ◌∙◌}
 use Prim.Native.Nat.{ℕ, ◌*◌, ◌<◌}
 use native.Mathlib.Omega.{arith}
-use borrow.Author.Rules.{rules}
-use borrow.Author.Tests.{not-true, not-false}
 use Rattle.crc.specs.Home.{home_of}
 use Rattle.crc.proofs.Homes.{home_lt}
 use Rattle.head.proofs.Walking.{walk_length}

@@ -1,13 +1,11 @@
 -- `table::look` meets its contract. The invariant: the table is open, and `cell` is read as number `count`. The measure: cells not read yet.
 -- Assumes nothing.
-use mathlib.Core.Path.{◌≡◌, sym, subst}
-use Prim.Native.Nat.{◌+◌, ℕ, ◌-◌, ◌*◌, ◌<◌}
+use mathlib.Core.Path.{sym, subst}
+use Prim.Native.Nat.{ℕ, ◌*◌, ◌<◌}
 use native.Mathlib.Omega.{arith}
-use borrow.Author.Rules.{rules}
 use lib.ListN.{length}
-use Rattle.crc.specs.Home.{home_of}
 use Rattle.crc.proofs.Homes.{home_lt}
-use Rattle.table.proofs.Seek.{Seeking, seek_start, seek_le, seek_in, seek_none, seek_some, seek_on}
+use Rattle.table.proofs.Seek.{seek_start, seek_le, seek_in, seek_none, seek_some, seek_on}
 use Rattle.table.proofs.look.Goals as goal
 use Rattle.table.proofs.look.Goals.{After-wide-s}
 

@@ -1,13 +1,9 @@
 -- `table::look` meets its contract. The invariant: the table is open, and `cell` is read as number `count`. The measure: cells not read yet.
 -- Assumes nothing.
-use mathlib.Core.Path.{◌≡◌, sym, subst}
-use Prim.Native.Nat.{◌+◌, ℕ, ◌-◌, ◌*◌, ◌<◌}
-use native.Mathlib.Omega.{arith}
-use borrow.Author.Rules.{rules}
-use lib.ListN.{length}
+use mathlib.Core.Path.{◌≡◌}
+use Prim.Native.Nat.{◌+◌, ◌-◌}
 use Rattle.crc.specs.Home.{home_of}
-use Rattle.crc.proofs.Homes.{home_lt}
-use Rattle.table.proofs.Seek.{Seeking, seek_start, seek_le, seek_in, seek_none, seek_some, seek_on}
+use Rattle.table.proofs.Seek.{Seeking}
 use Rattle.table.proofs.look.Given as goal
 
 abbrev pub invariant-loop-slot : goal.invariant-loop-slot

@@ -1,13 +1,12 @@
 -- `table::rebuild` meets its contract: the invariant and the steps are those of `proofs/Renewal.antt`. The measure: slots not inserted yet.
 -- Assumes nothing.
-use mathlib.Core.Path.{refl, ◌∙◌}
-use Prim.Native.Nat.{ℕ, ◌-◌, ◌*◌, ◌<◌}
+use mathlib.Core.Path.{refl}
+use Prim.Native.Nat.{ℕ, ◌*◌, ◌<◌}
 use native.Mathlib.Omega.{arith}
 use lib.ListN.{length}
 use Rattle.crc.specs.Home.{home_of}
 use Rattle.crc.proofs.Homes.{home_lt}
-use Rattle.head.specs.Walks.{walk}
-use Rattle.table.proofs.Renewal.{Renewing, renew_start, renew_end, renew_slotted, renew_linked, renew_on, renew_whole}
+use Rattle.table.proofs.Renewal.{renew_start, renew_end, renew_slotted, renew_linked, renew_on, renew_whole}
 use Rattle.table.proofs.rebuild.Goals as goal
 use Rattle.table.proofs.rebuild.Goals.{After-wide-s, At-loop-i}
 

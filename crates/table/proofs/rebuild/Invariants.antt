@@ -1,13 +1,9 @@
 -- `table::rebuild` meets its contract: the invariant and the steps are those of `proofs/Renewal.antt`. The measure: slots not inserted yet.
 -- Assumes nothing.
-use mathlib.Core.Path.{refl, ◌∙◌}
-use Prim.Native.Nat.{ℕ, ◌-◌, ◌*◌, ◌<◌}
-use native.Mathlib.Omega.{arith}
-use lib.ListN.{length}
+use Prim.Native.Nat.{◌-◌}
 use Rattle.crc.specs.Home.{home_of}
-use Rattle.crc.proofs.Homes.{home_lt}
 use Rattle.head.specs.Walks.{walk}
-use Rattle.table.proofs.Renewal.{Renewing, renew_start, renew_end, renew_slotted, renew_linked, renew_on, renew_whole}
+use Rattle.table.proofs.Renewal.{Renewing}
 use Rattle.table.proofs.rebuild.Given as goal
 
 abbrev pub invariant-loop-i : goal.invariant-loop-i

@@ -6,7 +6,6 @@ use Rattle.crc.specs.Home.{home_of}
 use Rattle.table.specs.declared.Search.{Search}
 use Rattle.table.specs.Cells.{names}
 use Rattle.table.proofs.Found.{seen}
-use borrow.Author.Rules.{rules}
 use Rattle.table.proofs.stands.Goals as goal
 
 pub returns-in_default : goal.returns-in_default
