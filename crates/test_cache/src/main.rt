@@ -4,59 +4,60 @@
 use door::Said;
 use head::{Answer, Command, Form, Head, Refusal, Row};
 use script_read::Line;
+use std::io;
 use test_turns::{Turn, say, say_flag, say_number};
 
 // ---- the line
 
-fn say_row(row: Row) {
-    say_number(row.code.0);
-    say_number(row.stamp as u64);
-    say_number(row.value);
-    say_number(row.weight);
+fn say_row(rt: &impl Print, row: Row) -> io::Result<()> {
+    say_number(rt, row.code.0)?;
+    say_number(rt, row.stamp as u64)?;
+    say_number(rt, row.value)?;
+    say_number(rt, row.weight)
 }
 
-fn say_one(text: &[u8], n: u64) {
-    say(text);
-    say_number(n);
+fn say_one(rt: &impl Print, text: &[u8], n: u64) -> io::Result<()> {
+    say(rt, text)?;
+    say_number(rt, n)
 }
 
-fn say_two(text: &[u8], n: u64, rows: u32) {
-    say_one(text, n);
-    say_number(rows as u64);
+fn say_two(rt: &impl Print, text: &[u8], n: u64, rows: u32) -> io::Result<()> {
+    say_one(rt, text, n)?;
+    say_number(rt, rows as u64)
 }
 
-fn say_now(value: u64, new: bool, rows: u32) {
-    say_one(b" > now", value);
-    say_flag(new);
-    say_number(rows as u64);
+fn say_now(rt: &impl Print, value: u64, new: bool, rows: u32) -> io::Result<()> {
+    say_one(rt, b" > now", value)?;
+    say_flag(rt, new)?;
+    say_number(rt, rows as u64)
 }
 
-fn say_entry(row: Row) {
-    say(b" > entry");
-    say_row(row);
+fn say_entry(rt: &impl Print, row: Row) -> io::Result<()> {
+    say(rt, b" > entry")?;
+    say_row(rt, row)
 }
 
-fn say_truth(on: bool) {
-    say(b" > flag");
-    say_flag(on);
+fn say_truth(rt: &impl Print, on: bool) -> io::Result<()> {
+    say(rt, b" > flag")?;
+    say_flag(rt, on)
 }
 
-fn say_refusal(refusal: Refusal) {
-    say_one(b" > no", refusal.number() as u64);
+fn say_refusal(rt: &impl Print, refusal: Refusal) -> io::Result<()> {
+    say_one(rt, b" > no", refusal.number() as u64)
 }
 
-fn say_answer(answer: Answer) {
+fn say_answer(rt: &impl Print, answer: Answer) -> io::Result<()> {
     match answer {
-        Answer::No(refusal) => say_refusal(refusal),
-        Answer::New { rows } => say_one(b" > new", rows as u64),
-        Answer::Was { value, rows } => say_two(b" > was", value, rows),
-        Answer::Is(value) => say_one(b" > is", value),
-        Answer::Now { value, new, rows } => say_now(value, new, rows),
-        Answer::Absent => say(b" > absent"),
-        Answer::Entry(row) => say_entry(row),
-        Answer::Done { rows } => say_one(b" > done", rows as u64),
-        Answer::Count(n) => say_one(b" > count", n),
-        Answer::Flag(on) => say_truth(on),
+        Answer::No(refusal) => say_refusal(rt, refusal),
+        Answer::New { rows } => say_one(rt, b" > new", rows as u64),
+        Answer::Was { value, rows } => say_two(rt, b" > was", value, rows),
+        Answer::Is(value) => say_one(rt, b" > is", value),
+        Answer::Now { value, new, rows } => say_now(rt, value, new, rows),
+        Answer::Absent => say(rt, b" > absent"),
+        Answer::Entry(row) => say_entry(rt, row),
+        Answer::Done { rows } => say_one(rt, b" > done", rows as u64),
+        Answer::Count(n) => say_one(rt, b" > count", n),
+        Answer::Flag(on) => say_truth(rt, on),
     }
 }
 
@@ -71,33 +72,56 @@ fn short_at(list: &[u32], i: u32) -> u32 {
     if j < list.len() { list[j] } else { 0 }
 }
 
-fn say_slot(slot: u32) {
-    say_number(slot as u64);
+fn say_slot(rt: &impl Print, slot: u32) -> io::Result<()> {
+    say_number(rt, slot as u64)
 }
 
 // The entry at a place of four lists.
-fn say_place(codes: &[u64], stamps: &[u32], values: &[u64], weights: &[u64], i: u32) {
-    say_number(wide_at(codes, i));
-    say_number(short_at(stamps, i) as u64);
-    say_number(wide_at(values, i));
-    say_number(wide_at(weights, i));
+fn say_place(
+    rt: &impl Print,
+    codes: &[u64],
+    stamps: &[u32],
+    values: &[u64],
+    weights: &[u64],
+    i: u32,
+) -> io::Result<()> {
+    say_number(rt, wide_at(codes, i))?;
+    say_number(rt, short_at(stamps, i) as u64)?;
+    say_number(rt, wide_at(values, i))?;
+    say_number(rt, wide_at(weights, i))
 }
 
-fn say_handed(codes: &[u64], stamps: &[u32], values: &[u64], weights: &[u64], i: u32) {
-    say(b" row");
-    say_place(codes, stamps, values, weights, i);
+fn say_handed(
+    rt: &impl Print,
+    codes: &[u64],
+    stamps: &[u32],
+    values: &[u64],
+    weights: &[u64],
+    i: u32,
+) -> io::Result<()> {
+    say(rt, b" row")?;
+    say_place(rt, codes, stamps, values, weights, i)
 }
 
-fn say_rows(codes: &[u64], stamps: &[u32], values: &[u64], weights: &[u64], n: u32) {
+fn say_rows(
+    rt: &impl Print,
+    codes: &[u64],
+    stamps: &[u32],
+    values: &[u64],
+    weights: &[u64],
+    n: u32,
+) -> io::Result<()> {
     let mut i: u32 = 0;
     while i < n {
-        say_handed(codes, stamps, values, weights, i);
+        say_handed(rt, codes, stamps, values, weights, i)?;
         i += 1;
     }
+    Ok(())
 }
 
 // The entries front to back, each behind its slot.
 fn say_order(
+    rt: &impl Print,
     codes: &[u64],
     stamps: &[u32],
     values: &[u64],
@@ -105,27 +129,30 @@ fn say_order(
     next: &[u32],
     front: u32,
     n: u32,
-) {
+) -> io::Result<()> {
     let mut slot = front;
     let mut i: u32 = 0;
     while i < n {
-        say_slot(slot);
-        say_place(codes, stamps, values, weights, slot);
+        say_slot(rt, slot)?;
+        say_place(rt, codes, stamps, values, weights, slot)?;
         slot = short_at(next, slot);
         i += 1;
     }
+    Ok(())
 }
 
-fn say_stack(stack: &[u32], n: u32) {
+fn say_stack(rt: &impl Print, stack: &[u32], n: u32) -> io::Result<()> {
     let mut i: u32 = 0;
     while i < n {
-        say_slot(short_at(stack, i));
+        say_slot(rt, short_at(stack, i))?;
         i += 1;
     }
+    Ok(())
 }
 
 // Weight, top, live, the entries, the depth of the stack and the slots on it, bottom first.
 fn say_state(
+    rt: &impl Print,
     head: Head,
     codes: &[u64],
     stamps: &[u32],
@@ -133,18 +160,18 @@ fn say_state(
     weights: &[u64],
     next: &[u32],
     stack: &[u32],
-) {
+) -> io::Result<()> {
     let front = head.front;
     let top = head.top;
     let depth = head.depth;
-    say(b" =");
-    say_number(head.weight);
-    say_number(top.0 as u64);
-    say_number(head.live as u64);
-    say_order(codes, stamps, values, weights, next, front.0, head.live);
-    say_number(depth.0 as u64);
-    say_stack(stack, depth.0);
-    say(b"\n");
+    say(rt, b" =")?;
+    say_number(rt, head.weight)?;
+    say_number(rt, top.0 as u64)?;
+    say_number(rt, head.live as u64)?;
+    say_order(rt, codes, stamps, values, weights, next, front.0, head.live)?;
+    say_number(rt, depth.0 as u64)?;
+    say_stack(rt, stack, depth.0)?;
+    say(rt, b"\n")
 }
 
 // ---- the turns
@@ -380,6 +407,7 @@ fn lend(
 
 // The line of a turn.
 fn report(
+    rt: &impl Print,
     i: u32,
     t: Turn,
     head: Head,
@@ -394,17 +422,17 @@ fn report(
     row_stamps: &[u32],
     row_values: &[u64],
     row_weights: &[u64],
-) {
+) -> io::Result<()> {
     let answer = said.answer;
-    test_turns::say_turn(i, t);
-    say_answer(answer);
+    test_turns::say_turn(rt, i, t)?;
+    say_answer(rt, answer)?;
     let rows = answer.rows();
-    say_rows(row_codes, row_stamps, row_values, row_weights, rows);
-    say_state(head, codes, stamps, values, weights, next, stack);
+    say_rows(rt, row_codes, row_stamps, row_values, row_weights, rows)?;
+    say_state(rt, head, codes, stamps, values, weights, next, stack)
 }
 
 // Every turn with its line, in lists that hold 7 everywhere at the start.
-fn main() {
+fn main(rt: HostRuntime) -> io::Result<()> {
     let mut codes = [7u64; 8];
     let mut stamps = [7u32; 8];
     let mut values = [7u64; 8];
@@ -440,6 +468,7 @@ fn main() {
         );
         head = mended(head, hurt, said, t);
         report(
+            &rt,
             i,
             t,
             head,
@@ -454,7 +483,8 @@ fn main() {
             &row_stamps,
             &row_values,
             &row_weights,
-        );
+        )?;
         i += 1;
     }
+    Ok(())
 }

@@ -2,6 +2,7 @@
 #![tactic(auto)]
 
 use head::{Code, Head, Place, Slot};
+use std::io;
 use test_kit::{at, less, more, narrow, one, pick, plus, say, set, shaken};
 
 // A state is a sheet of 153 numbers: the head's nine, then eight lists. Each list has 16 places, the cells 32. Behind them the sheet says
@@ -1760,26 +1761,27 @@ fn run(s: &mut [u64], states: u64, pairs: u64, t: Tally) -> Tally {
 }
 
 // How many states and damages there were.
-fn tell_damages(counts: [u64; 8]) {
-    say(b"states", counts[0]);
-    say(b"states that one of the two calls unsound", counts[1]);
+fn tell_damages(rt: &impl Print, counts: [u64; 8]) -> io::Result<()> {
+    say(rt, b"states", counts[0])?;
+    say(rt, b"states that one of the two calls unsound", counts[1])?;
     say(
+        rt,
         b"one list lent to what is needed, one less, and empty",
         counts[2],
-    );
-    say(b"one number changed", counts[3]);
-    say(b"two numbers changed", counts[4]);
+    )?;
+    say(rt, b"one number changed", counts[3])?;
+    say(rt, b"two numbers changed", counts[4])
 }
 
 // What the two said of them.
-fn tell_answers(counts: [u64; 8]) {
-    say(b"both say sound", counts[5]);
-    say(b"both say unsound", counts[6]);
-    say(b"disagreements", counts[7]);
+fn tell_answers(rt: &impl Print, counts: [u64; 8]) -> io::Result<()> {
+    say(rt, b"both say sound", counts[5])?;
+    say(rt, b"both say unsound", counts[6])?;
+    say(rt, b"disagreements", counts[7])
 }
 
 // Runs the first so many states, each with two kinds of tail, with so many draws of two numbers, and writes how it went.
-pub fn drive(states: u64, pairs: u64) {
+pub fn drive(rt: &impl Print, states: u64, pairs: u64) -> io::Result<()> {
     let mut s = [0u64; 161];
     lend_all(&mut s);
     let start = Tally {
@@ -1789,11 +1791,11 @@ pub fn drive(states: u64, pairs: u64) {
     };
     let t = run(&mut s, states, pairs, start);
     let counts = t.counts;
-    tell_damages(counts);
-    tell_answers(counts);
+    tell_damages(rt, counts)?;
+    tell_answers(rt, counts)
 }
 
 // The long run: every state, 20,000 draws of two numbers for each.
-fn main() {
-    drive(16, 20000);
+fn main(rt: HostRuntime) -> io::Result<()> {
+    drive(&rt, 16, 20000)
 }

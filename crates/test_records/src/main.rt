@@ -6,8 +6,8 @@ ghost use Rattle.plan.specs.States.{state};
 ghost use Rattle.test_records.specs.Eight.{Lists, ListsTold};
 
 use head::{Answer, Code, Command, Head, Row, Rule};
-use libc::STDOUT_FILENO;
 use opening::Opened;
+use std::io;
 use test_kit::line::{nth, nth_short};
 use test_kit::narrow;
 
@@ -149,19 +149,19 @@ fn command(i: u32) -> Command {
 }
 
 // A word, and a number in decimal.
-fn say(word: &[u8], n: u64) {
-    io::write_all(STDOUT_FILENO, word);
-    io::print_decimal(STDOUT_FILENO, n);
+fn say(rt: &impl Print, word: &[u8], n: u64) -> io::Result<()> {
+    rt.write_all(word)?;
+    print!(rt; "{n}")
 }
 
 // A row in brackets: code, stamp, value, weight.
-fn print_row(row: Row) {
+fn print_row(rt: &impl Print, row: Row) -> io::Result<()> {
     let code = row.code;
-    say(b" (", code.0);
-    say(b" ", row.stamp as u64);
-    say(b" ", row.value);
-    say(b" ", row.weight);
-    io::write_all(STDOUT_FILENO, b")");
+    say(rt, b" (", code.0)?;
+    say(rt, b" ", row.stamp as u64)?;
+    say(rt, b" ", row.value)?;
+    say(rt, b" ", row.weight)?;
+    rt.write_all(b")")
 }
 
 // The four row lists.
@@ -187,41 +187,43 @@ fn row_at(rows: Rows, i: u64) -> Row {
 }
 
 // The rows of the four lists.
-fn print_numbers(rows: Rows, n: u32) {
+fn print_numbers(rt: &impl Print, rows: Rows, n: u32) -> io::Result<()> {
     let mut i: u64 = 0;
     while i < 8 {
         if i < (n as u64) {
-            print_row(row_at(rows, i));
+            print_row(rt, row_at(rows, i))?;
         }
         i += 1;
     }
+    Ok(())
 }
 
 // The rows of the records.
-fn print_records(list: [Row; 8], n: u32) {
+fn print_records(rt: &impl Print, list: [Row; 8], n: u32) -> io::Result<()> {
     let mut i: usize = 0;
     while i < 8 {
         if i < n as usize {
             let row = list[i];
-            print_row(row);
+            print_row(rt, row)?;
         }
         i += 1;
     }
+    Ok(())
 }
 
 // What a call answered, and its rows in both forms.
-fn show(i: u32, answer: Answer, rows: Rows, list: [Row; 8]) {
-    say(b"call ", i as u64);
+fn show(rt: &impl Print, i: u32, answer: Answer, rows: Rows, list: [Row; 8]) -> io::Result<()> {
+    say(rt, b"call ", i as u64)?;
     if let Answer::No(r) = answer {
-        say(b" no ", r.number() as u64);
+        say(rt, b" no ", r.number() as u64)?;
     }
     let n = answer.rows();
-    say(b": rows ", n as u64);
-    io::write_all(STDOUT_FILENO, b"\n  numbers");
-    print_numbers(rows, n);
-    io::write_all(STDOUT_FILENO, b"\n  records");
-    print_records(list, n);
-    io::write_all(STDOUT_FILENO, b"\n");
+    say(rt, b": rows ", n as u64)?;
+    rt.write_all(b"\n  numbers")?;
+    print_numbers(rt, rows, n)?;
+    rt.write_all(b"\n  records")?;
+    print_records(rt, list, n)?;
+    rt.write_all(b"\n")
 }
 
 // The cache that the calls are made on.
@@ -424,22 +426,23 @@ fn begun() -> State {
 }
 
 // A call by its number, and what it came to.
-fn step(s: State, i: u32) -> State {
+fn step(rt: &impl Print, s: State, i: u32) -> io::Result<State> {
     let c = command(i);
     let list = as_records(s, c);
     let done = call(s, c);
     let answer = done.answer;
     let rows = done.rows;
-    show(i, answer, rows, list);
-    done.state
+    show(rt, i, answer, rows, list)?;
+    Ok(done.state)
 }
 
 // The calls are made one after another.
-fn main() {
+fn main(rt: HostRuntime) -> io::Result<()> {
     let mut s = begun();
     let mut i: u32 = 0;
     while i < CALLS {
-        s = step(s, i);
+        s = step(&rt, s, i)?;
         i += 1;
     }
+    Ok(())
 }
