@@ -2,12 +2,13 @@
 // where the text of the answer and the state after it are what was recorded. compare/README.md has the format.
 #![tactic(auto)]
 
-ghost use Rattle.std.specs.Prelude.{◌≤◌, ◌<◌, ◌≡◌, length};
+ghost use Rattle.std.specs.Prelude.{◌≤◌, ◌<◌, ◌≡◌, length, IfOk};
 ghost use Rattle.store.specs.State.{fields};
 ghost use Rattle.test_replay.specs.Playing.{Plays};
 
 use head::Head;
-use libc::{STDIN_FILENO, STDOUT_FILENO};
+use std::io;
+use std::io::Read;
 
 // How many lines agreed, calls and openings apart, how many did not, and at how many the crate panics.
 #[derive(Clone, Copy)]
@@ -313,14 +314,28 @@ fn play(
     tally
 }
 
-fn say(n: u32, words: &[u8]) {
-    io::print_decimal(STDOUT_FILENO, n as u64);
-    io::write_all(STDOUT_FILENO, words);
+fn say(rt: &impl Print, n: u32, words: &[u8]) -> io::Result<()> {
+    print!(rt; "{n}")?;
+    rt.write_all(words)
 }
 
-fn say_size(n: usize) {
-    io::print_decimal(STDOUT_FILENO, n as u64);
-    io::write_all(STDOUT_FILENO, b" bytes read\n");
+fn say_size(rt: &impl Print, n: usize) -> io::Result<()> {
+    println!(rt; "{n} bytes read")
+}
+
+// Reads until the buffer is full or the input ends, and answers how many bytes it put at the start of the buffer.
+fn read_full(source: &mut impl Read, buffer: &mut [u8]) -> io::Result<usize>
+    ensures { IfOk result (λ n. n ≤ length buffer.new) }
+{
+    let mut done: usize = 0;
+    while done < buffer.len() {
+        let n = source.read(&mut buffer[done..])?;
+        if n == 0 {
+            break;
+        }
+        done += n;
+    }
+    Ok(done)
 }
 
 // Room for the recorded list. The ensures has only its length, so that no proof meets that many zeros.
@@ -330,9 +345,9 @@ fn space() -> [u8; 1400000]
     [0; 1400000]
 }
 
-fn main() {
+fn main(rt: HostRuntime) -> io::Result<()> {
     let mut input = space();
-    let n = io::read_full(STDIN_FILENO, &mut input);
+    let n = read_full(&mut rt.stdin(), &mut input)?;
     let mut codes = [0u64; 4096];
     let mut stamps = [0u32; 4096];
     let mut values = [0u64; 4096];
@@ -364,9 +379,9 @@ fn main() {
         &mut row_weights,
         &mut out,
     );
-    say_size(n);
-    say(tally.calls, b" calls agree\n");
-    say(tally.openings, b" openings agree\n");
-    say(tally.differ, b" differ\n");
-    say(tally.panics, b" left out where the crate panics\n");
+    say_size(&rt, n)?;
+    say(&rt, tally.calls, b" calls agree\n")?;
+    say(&rt, tally.openings, b" openings agree\n")?;
+    say(&rt, tally.differ, b" differ\n")?;
+    say(&rt, tally.panics, b" left out where the crate panics\n")
 }
