@@ -15,7 +15,7 @@ import sys
 ROOT = os.path.realpath(os.path.join(os.path.dirname(os.path.realpath(__file__)), ".."))
 WORD = re.compile(r"[^\s(){}\[\],;.@\"`|:]+")
 SIGNATURE = re.compile(r"^(?:(?:unfoldable|abbrev|pub) )*([^\s(){},.;:]+)(?: \{[^}]*\})?\s+:(?:\s|$)(.*)$")
-TYPE = re.compile(r"^(?:(?:unfoldable|abbrev|pub) )*(record|data) ([^\s(){},.;:]+)")
+TYPE = re.compile(r"^\s*(?:(?:unfoldable|abbrev|pub) )*(record|data) ([^\s(){},.;:]+)")
 FIELD = re.compile(r"^\s+(?:pub )?([^\s(){},.;:]+)((?: [^\s(){},.;:]+)*)\s+:(?:\s|$)")
 OLDER = {"getD": "get_or"}
 

@@ -208,7 +208,7 @@ module _ {home : ℕ → ℕ} {m : ℕ} {codes : List ℕ} {s : ℕ} {cells d : 
     record From (p : ℕ) : Type 0 where
       from : ℕ
       from_in : from < m
-      from-hole : from ≢ hole
+      from_hole : from ≢ hole
       same : get_or new p 0 ≡ get_or d from 0
       back : (q : ℕ) (t : ℕ) → (get_or new q 0 ≡ get_or d t 0) → from ≡ t → ((q ≡ hole) × (t ≡ at)) ⊎ ((q ≢ hole) × (t ≡ q)) → q ≢ at → p ≡ q
       how : ((p ≡ hole) × (from ≡ at)) ⊎ ((p ≢ hole) × (from ≡ p))
@@ -221,7 +221,7 @@ module _ {home : ℕ → ℕ} {m : ℕ} {codes : List ℕ} {s : ℕ} {cells d : 
             record {
               from = at;
               from_in = v.at_in;
-              from-hole = apart;
+              from_hole = apart;
               same = ap (λ (x : ℕ). get_or new x 0) q ∙ new_hole;
               back = λ k t e a h c. ⊎_elim (λ w. q ∙ sym w.0) (λ w. absurd (c (sym w.1 ∙ sym a))) h;
               how = inl (q, refl);
@@ -232,7 +232,7 @@ module _ {home : ℕ → ℕ} {m : ℕ} {codes : List ℕ} {s : ℕ} {cells d : 
             record {
               from = p;
               from_in = l;
-              from-hole = q;
+              from_hole = q;
               same = new_else p q;
               back = λ k t e a h c. ⊎_elim (λ w. absurd (n (a ∙ w.1))) (λ w. a ∙ w.1) h;
               how = inr (q, refl);
@@ -261,7 +261,7 @@ module _ {home : ℕ → ℕ} {m : ℕ} {codes : List ℕ} {s : ℕ} {cells d : 
             let x = whence p pl a in
             let y = whence q ql c in
             x.back q y.from y.same
-            (v.once x.from y.from x.from_in y.from_in x.from-hole y.from-hole (λ z. n (x.same ∙ z)) (sym x.same ∙ e ∙ y.same))
+            (v.once x.from y.from x.from_in y.from_in x.from_hole y.from_hole (λ z. n (x.same ∙ z)) (sym x.same ∙ e ∙ y.same))
             y.how c
 
         -- the slot's run goes by the hole
@@ -291,7 +291,7 @@ module _ {home : ℕ → ℕ} {m : ℕ} {codes : List ℕ} {s : ℕ} {cells d : 
         only : (p : ℕ) → p < m → p ≢ at → get_or new p 0 ≢ none_mark → (get_or new p 0 ≢ s) × In m cells (get_or new p 0)
         only p l a n =
             let x = whence p l a in
-            subst (λ (k : ℕ). (k ≢ s) × In m cells k) (sym x.same) (v.only x.from x.from_in x.from-hole (λ z. n (x.same ∙ z)))
+            subst (λ (k : ℕ). (k ≢ s) × In m cells k) (sym x.same) (v.only x.from x.from_in x.from_hole (λ z. n (x.same ∙ z)))
 
   -- nothing more to shift
   pub shift_end : get_or d at 0 ≡ none_mark → TakenOut home m codes s cells (cut d hole)
