@@ -2,866 +2,240 @@
 // refusal 2, and nothing is touched. A call that hands out rows takes four row lists, one a field, and counts the rows it wrote.
 #![tactic(auto)]
 
+ghost use Rattle.std.specs.Prelude.{◌≡◌};
 ghost use Rattle.head.specs.declared.Command.TheVariants.{Back, BackMut, Capacity, Clear, Contains, Front, FrontMut, Get, GetMut, IsEmpty, IsFull, Len, ListBack, List as ListFront, Peek, PeekMut, Pop, PopBack, PopFront, Put, PutOrModify, PutWithWeight, Resize, Retain, TryPutOrModify, Weight};
 ghost use Rattle.head.specs.Fresh.{fresh_head};
-ghost use Rattle.store.specs.State.{fields};
-ghost use Rattle.plan.specs.States.{state};
-ghost use Rattle.opening.specs.Begun.{Opens};
+ghost use Rattle.state.specs.State.{held, lent, seen, SameFields, SameLists};
+ghost use Rattle.opening.specs.Begun.{Opens, headed, head_left};
 ghost use Rattle.door.specs.Served.{Calls, Reads, Serves, Tells};
 
-use door::Said;
-use head::{Answer, Code, Command, Head, Rule};
-use opening::Opened;
+use head::{Answer, Code, Command, Head, Refusal, Rule};
+use state::{Fields, State, View};
 
-// Opens a cache in lists that may hold anything: what N slots need is made empty.
-pub fn open(
-    kind: u32,
-    capacity: u64,
-    slots: u32,
-    codes: &mut [u64],
-    stamps: &mut [u32],
-    values: &mut [u64],
-    weights: &mut [u64],
-    next: &mut [u32],
-    prev: &mut [u32],
-    stack: &mut [u32],
-    cells: &mut [u32],
-) -> Opened
-    ensures { Opens kind capacity slots (state (fresh_head kind capacity slots) codes.old stamps.old values.old weights.old next.old prev.old stack.old cells.old) (state (fresh_head kind capacity slots) codes.new stamps.new values.new weights.new next.new prev.new stack.new cells.new) result }
+// Opens a cache in lists that may hold anything: what N slots need is made empty, and the state has the fresh head. Refused, all stays as it was.
+pub fn open(kind: u32, capacity: u64, slots: u32, state: &mut State<'_>) -> Result<Head, Refusal>
+    ensures lists { SameLists state.old state.new }
+    ensures head { state.new.head ≡ head_left state.old.head result }
+    ensures opens { Opens kind capacity slots (headed (fresh_head kind capacity slots) (lent state.old)) (headed (fresh_head kind capacity slots) (lent state.new)) result }
 {
-    opening::open(
-        kind, capacity, slots, codes, stamps, values, weights, next, prev, stack, cells,
-    )
+    opening::open(kind, capacity, slots, state)
 }
 
 // How many entries there are: `Count`.
-pub fn len(
-    head: Head,
-    codes: &[u64],
-    stamps: &[u32],
-    values: &[u64],
-    weights: &[u64],
-    next: &[u32],
-    prev: &[u32],
-    stack: &[u32],
-    cells: &[u32],
-) -> Answer
-    ensures { Reads Len (state head codes.now stamps.now values.now weights.now next.now prev.now stack.now cells.now) result }
+pub fn len(view: &View<'_>) -> Answer
+    ensures { Reads Len (seen view.now) result }
 {
-    door::read(
-        head,
-        codes,
-        stamps,
-        values,
-        weights,
-        next,
-        prev,
-        stack,
-        cells,
-        Command::Len,
-    )
+    door::read(view, Command::Len)
 }
 
 // The capacity: `Count`.
-pub fn capacity(
-    head: Head,
-    codes: &[u64],
-    stamps: &[u32],
-    values: &[u64],
-    weights: &[u64],
-    next: &[u32],
-    prev: &[u32],
-    stack: &[u32],
-    cells: &[u32],
-) -> Answer
-    ensures { Reads Capacity (state head codes.now stamps.now values.now weights.now next.now prev.now stack.now cells.now) result }
+pub fn capacity(view: &View<'_>) -> Answer
+    ensures { Reads Capacity (seen view.now) result }
 {
-    door::read(
-        head,
-        codes,
-        stamps,
-        values,
-        weights,
-        next,
-        prev,
-        stack,
-        cells,
-        Command::Capacity,
-    )
+    door::read(view, Command::Capacity)
 }
 
 // What the entries weigh together: `Count`.
-pub fn weight(
-    head: Head,
-    codes: &[u64],
-    stamps: &[u32],
-    values: &[u64],
-    weights: &[u64],
-    next: &[u32],
-    prev: &[u32],
-    stack: &[u32],
-    cells: &[u32],
-) -> Answer
-    ensures { Reads Weight (state head codes.now stamps.now values.now weights.now next.now prev.now stack.now cells.now) result }
+pub fn weight(view: &View<'_>) -> Answer
+    ensures { Reads Weight (seen view.now) result }
 {
-    door::read(
-        head,
-        codes,
-        stamps,
-        values,
-        weights,
-        next,
-        prev,
-        stack,
-        cells,
-        Command::Weight,
-    )
+    door::read(view, Command::Weight)
 }
 
 // Whether there is no entry: `Flag`.
-pub fn is_empty(
-    head: Head,
-    codes: &[u64],
-    stamps: &[u32],
-    values: &[u64],
-    weights: &[u64],
-    next: &[u32],
-    prev: &[u32],
-    stack: &[u32],
-    cells: &[u32],
-) -> Answer
-    ensures { Reads IsEmpty (state head codes.now stamps.now values.now weights.now next.now prev.now stack.now cells.now) result }
+pub fn is_empty(view: &View<'_>) -> Answer
+    ensures { Reads IsEmpty (seen view.now) result }
 {
-    door::read(
-        head,
-        codes,
-        stamps,
-        values,
-        weights,
-        next,
-        prev,
-        stack,
-        cells,
-        Command::IsEmpty,
-    )
+    door::read(view, Command::IsEmpty)
 }
 
 // Whether live + weight is the capacity: `Flag`.
-pub fn is_full(
-    head: Head,
-    codes: &[u64],
-    stamps: &[u32],
-    values: &[u64],
-    weights: &[u64],
-    next: &[u32],
-    prev: &[u32],
-    stack: &[u32],
-    cells: &[u32],
-) -> Answer
-    ensures { Reads IsFull (state head codes.now stamps.now values.now weights.now next.now prev.now stack.now cells.now) result }
+pub fn is_full(view: &View<'_>) -> Answer
+    ensures { Reads IsFull (seen view.now) result }
 {
-    door::read(
-        head,
-        codes,
-        stamps,
-        values,
-        weights,
-        next,
-        prev,
-        stack,
-        cells,
-        Command::IsFull,
-    )
+    door::read(view, Command::IsFull)
 }
 
 // The most recent entry: `Entry`, or `Absent`.
-pub fn front(
-    head: Head,
-    codes: &[u64],
-    stamps: &[u32],
-    values: &[u64],
-    weights: &[u64],
-    next: &[u32],
-    prev: &[u32],
-    stack: &[u32],
-    cells: &[u32],
-) -> Answer
-    ensures { Reads Front (state head codes.now stamps.now values.now weights.now next.now prev.now stack.now cells.now) result }
+pub fn front(view: &View<'_>) -> Answer
+    ensures { Reads Front (seen view.now) result }
 {
-    door::read(
-        head,
-        codes,
-        stamps,
-        values,
-        weights,
-        next,
-        prev,
-        stack,
-        cells,
-        Command::Front,
-    )
+    door::read(view, Command::Front)
 }
 
 // The least recent entry: `Entry`, or `Absent`.
-pub fn back(
-    head: Head,
-    codes: &[u64],
-    stamps: &[u32],
-    values: &[u64],
-    weights: &[u64],
-    next: &[u32],
-    prev: &[u32],
-    stack: &[u32],
-    cells: &[u32],
-) -> Answer
-    ensures { Reads Back (state head codes.now stamps.now values.now weights.now next.now prev.now stack.now cells.now) result }
+pub fn back(view: &View<'_>) -> Answer
+    ensures { Reads Back (seen view.now) result }
 {
-    door::read(
-        head,
-        codes,
-        stamps,
-        values,
-        weights,
-        next,
-        prev,
-        stack,
-        cells,
-        Command::Back,
-    )
+    door::read(view, Command::Back)
 }
 
 // The value of a code, which does not move: `Is`, or `Absent`.
-pub fn peek(
-    head: Head,
-    codes: &[u64],
-    stamps: &[u32],
-    values: &[u64],
-    weights: &[u64],
-    next: &[u32],
-    prev: &[u32],
-    stack: &[u32],
-    cells: &[u32],
-    code: Code,
-) -> Answer
-    ensures { Reads (Peek code) (state head codes.now stamps.now values.now weights.now next.now prev.now stack.now cells.now) result }
+pub fn peek(view: &View<'_>, code: Code) -> Answer
+    ensures { Reads (Peek code) (seen view.now) result }
 {
-    door::read(
-        head,
-        codes,
-        stamps,
-        values,
-        weights,
-        next,
-        prev,
-        stack,
-        cells,
-        Command::Peek(code),
-    )
+    door::read(view, Command::Peek(code))
 }
 
 // Whether a code is there: `Flag`.
-pub fn contains(
-    head: Head,
-    codes: &[u64],
-    stamps: &[u32],
-    values: &[u64],
-    weights: &[u64],
-    next: &[u32],
-    prev: &[u32],
-    stack: &[u32],
-    cells: &[u32],
-    code: Code,
-) -> Answer
-    ensures { Reads (Contains code) (state head codes.now stamps.now values.now weights.now next.now prev.now stack.now cells.now) result }
+pub fn contains(view: &View<'_>, code: Code) -> Answer
+    ensures { Reads (Contains code) (seen view.now) result }
 {
-    door::read(
-        head,
-        codes,
-        stamps,
-        values,
-        weights,
-        next,
-        prev,
-        stack,
-        cells,
-        Command::Contains(code),
-    )
+    door::read(view, Command::Contains(code))
 }
 
 // All entries as rows, front to back: `Done`.
-pub fn list(
-    head: Head,
-    codes: &[u64],
-    stamps: &[u32],
-    values: &[u64],
-    weights: &[u64],
-    next: &[u32],
-    prev: &[u32],
-    stack: &[u32],
-    cells: &[u32],
-    row_codes: &mut [u64],
-    row_stamps: &mut [u32],
-    row_values: &mut [u64],
-    row_weights: &mut [u64],
-) -> Answer
-    ensures { Tells ListFront (state head codes.now stamps.now values.now weights.now next.now prev.now stack.now cells.now) (fields row_codes.old row_stamps.old row_values.old row_weights.old) (fields row_codes.new row_stamps.new row_values.new row_weights.new) result }
+pub fn list(view: &View<'_>, rows: &mut Fields<'_>) -> Answer
+    ensures lists { SameFields rows.old rows.new }
+    ensures tells { Tells ListFront (seen view.now) (held rows.old) (held rows.new) result }
 {
-    door::tell(
-        head,
-        codes,
-        stamps,
-        values,
-        weights,
-        next,
-        prev,
-        stack,
-        cells,
-        row_codes,
-        row_stamps,
-        row_values,
-        row_weights,
-        Command::List,
-    )
+    door::tell(view, rows, Command::List)
 }
 
 // All entries as rows, back to front: `Done`.
-pub fn list_back(
-    head: Head,
-    codes: &[u64],
-    stamps: &[u32],
-    values: &[u64],
-    weights: &[u64],
-    next: &[u32],
-    prev: &[u32],
-    stack: &[u32],
-    cells: &[u32],
-    row_codes: &mut [u64],
-    row_stamps: &mut [u32],
-    row_values: &mut [u64],
-    row_weights: &mut [u64],
-) -> Answer
-    ensures { Tells ListBack (state head codes.now stamps.now values.now weights.now next.now prev.now stack.now cells.now) (fields row_codes.old row_stamps.old row_values.old row_weights.old) (fields row_codes.new row_stamps.new row_values.new row_weights.new) result }
+pub fn list_back(view: &View<'_>, rows: &mut Fields<'_>) -> Answer
+    ensures lists { SameFields rows.old rows.new }
+    ensures tells { Tells ListBack (seen view.now) (held rows.old) (held rows.new) result }
 {
-    door::tell(
-        head,
-        codes,
-        stamps,
-        values,
-        weights,
-        next,
-        prev,
-        stack,
-        cells,
-        row_codes,
-        row_stamps,
-        row_values,
-        row_weights,
-        Command::ListBack,
-    )
+    door::tell(view, rows, Command::ListBack)
 }
 
 // The value of a code, which moves to the front: `Is`, or `Absent`.
-pub fn get(
-    head: Head,
-    codes: &mut [u64],
-    stamps: &mut [u32],
-    values: &mut [u64],
-    weights: &mut [u64],
-    next: &mut [u32],
-    prev: &mut [u32],
-    stack: &mut [u32],
-    cells: &mut [u32],
-    code: Code,
-) -> Said
-    ensures { Serves (Get code) 0 (state head codes.old stamps.old values.old weights.old next.old prev.old stack.old cells.old) (state result.head codes.new stamps.new values.new weights.new next.new prev.new stack.new cells.new) result.answer }
+pub fn get(state: &mut State<'_>, code: Code) -> Answer
+    ensures lists { SameLists state.old state.new }
+    ensures serves { Serves (Get code) 0 (lent state.old) (lent state.new) result }
 {
-    door::serve(
-        head,
-        codes,
-        stamps,
-        values,
-        weights,
-        next,
-        prev,
-        stack,
-        cells,
-        Command::Get(code),
-    )
+    door::serve(state, Command::Get(code))
 }
 
 // Removes a code and answers its value: `Was`, or `Absent`.
-pub fn pop(
-    head: Head,
-    codes: &mut [u64],
-    stamps: &mut [u32],
-    values: &mut [u64],
-    weights: &mut [u64],
-    next: &mut [u32],
-    prev: &mut [u32],
-    stack: &mut [u32],
-    cells: &mut [u32],
-    code: Code,
-) -> Said
-    ensures { Serves (Pop code) 0 (state head codes.old stamps.old values.old weights.old next.old prev.old stack.old cells.old) (state result.head codes.new stamps.new values.new weights.new next.new prev.new stack.new cells.new) result.answer }
+pub fn pop(state: &mut State<'_>, code: Code) -> Answer
+    ensures lists { SameLists state.old state.new }
+    ensures serves { Serves (Pop code) 0 (lent state.old) (lent state.new) result }
 {
-    door::serve(
-        head,
-        codes,
-        stamps,
-        values,
-        weights,
-        next,
-        prev,
-        stack,
-        cells,
-        Command::Pop(code),
-    )
+    door::serve(state, Command::Pop(code))
 }
 
 // Removes the most recent entry and shows it: `Entry`, or `Absent`.
-pub fn pop_front(
-    head: Head,
-    codes: &mut [u64],
-    stamps: &mut [u32],
-    values: &mut [u64],
-    weights: &mut [u64],
-    next: &mut [u32],
-    prev: &mut [u32],
-    stack: &mut [u32],
-    cells: &mut [u32],
-) -> Said
-    ensures { Serves PopFront 0 (state head codes.old stamps.old values.old weights.old next.old prev.old stack.old cells.old) (state result.head codes.new stamps.new values.new weights.new next.new prev.new stack.new cells.new) result.answer }
+pub fn pop_front(state: &mut State<'_>) -> Answer
+    ensures lists { SameLists state.old state.new }
+    ensures serves { Serves PopFront 0 (lent state.old) (lent state.new) result }
 {
-    door::serve(
-        head,
-        codes,
-        stamps,
-        values,
-        weights,
-        next,
-        prev,
-        stack,
-        cells,
-        Command::PopFront,
-    )
+    door::serve(state, Command::PopFront)
 }
 
 // Removes the least recent entry and shows it: `Entry`, or `Absent`.
-pub fn pop_back(
-    head: Head,
-    codes: &mut [u64],
-    stamps: &mut [u32],
-    values: &mut [u64],
-    weights: &mut [u64],
-    next: &mut [u32],
-    prev: &mut [u32],
-    stack: &mut [u32],
-    cells: &mut [u32],
-) -> Said
-    ensures { Serves PopBack 0 (state head codes.old stamps.old values.old weights.old next.old prev.old stack.old cells.old) (state result.head codes.new stamps.new values.new weights.new next.new prev.new stack.new cells.new) result.answer }
+pub fn pop_back(state: &mut State<'_>) -> Answer
+    ensures lists { SameLists state.old state.new }
+    ensures serves { Serves PopBack 0 (lent state.old) (lent state.new) result }
 {
-    door::serve(
-        head,
-        codes,
-        stamps,
-        values,
-        weights,
-        next,
-        prev,
-        stack,
-        cells,
-        Command::PopBack,
-    )
+    door::serve(state, Command::PopBack)
 }
 
 // Removes all entries and answers how many: `Count`.
-pub fn clear(
-    head: Head,
-    codes: &mut [u64],
-    stamps: &mut [u32],
-    values: &mut [u64],
-    weights: &mut [u64],
-    next: &mut [u32],
-    prev: &mut [u32],
-    stack: &mut [u32],
-    cells: &mut [u32],
-) -> Said
-    ensures { Serves Clear 0 (state head codes.old stamps.old values.old weights.old next.old prev.old stack.old cells.old) (state result.head codes.new stamps.new values.new weights.new next.new prev.new stack.new cells.new) result.answer }
+pub fn clear(state: &mut State<'_>) -> Answer
+    ensures lists { SameLists state.old state.new }
+    ensures serves { Serves Clear 0 (lent state.old) (lent state.new) result }
 {
-    door::serve(
-        head,
-        codes,
-        stamps,
-        values,
-        weights,
-        next,
-        prev,
-        stack,
-        cells,
-        Command::Clear,
-    )
+    door::serve(state, Command::Clear)
 }
 
 // Sets the value of a code, which moves to the front, on a plain cache: `Was` with the value replaced, or `Absent`.
-pub fn get_mut(
-    head: Head,
-    codes: &mut [u64],
-    stamps: &mut [u32],
-    values: &mut [u64],
-    weights: &mut [u64],
-    next: &mut [u32],
-    prev: &mut [u32],
-    stack: &mut [u32],
-    cells: &mut [u32],
-    code: Code,
-    value: u64,
-) -> Said
-    ensures { Serves (GetMut code value) 0 (state head codes.old stamps.old values.old weights.old next.old prev.old stack.old cells.old) (state result.head codes.new stamps.new values.new weights.new next.new prev.new stack.new cells.new) result.answer }
+pub fn get_mut(state: &mut State<'_>, code: Code, value: u64) -> Answer
+    ensures lists { SameLists state.old state.new }
+    ensures serves { Serves (GetMut code value) 0 (lent state.old) (lent state.new) result }
 {
-    door::serve(
-        head,
-        codes,
-        stamps,
-        values,
-        weights,
-        next,
-        prev,
-        stack,
-        cells,
-        Command::GetMut { code, value },
-    )
+    door::serve(state, Command::GetMut { code, value })
 }
 
 // Sets the value of a code, which stays where it is, on a plain cache: `Was` with the value replaced, or `Absent`.
-pub fn peek_mut(
-    head: Head,
-    codes: &mut [u64],
-    stamps: &mut [u32],
-    values: &mut [u64],
-    weights: &mut [u64],
-    next: &mut [u32],
-    prev: &mut [u32],
-    stack: &mut [u32],
-    cells: &mut [u32],
-    code: Code,
-    value: u64,
-) -> Said
-    ensures { Serves (PeekMut code value) 0 (state head codes.old stamps.old values.old weights.old next.old prev.old stack.old cells.old) (state result.head codes.new stamps.new values.new weights.new next.new prev.new stack.new cells.new) result.answer }
+pub fn peek_mut(state: &mut State<'_>, code: Code, value: u64) -> Answer
+    ensures lists { SameLists state.old state.new }
+    ensures serves { Serves (PeekMut code value) 0 (lent state.old) (lent state.new) result }
 {
-    door::serve(
-        head,
-        codes,
-        stamps,
-        values,
-        weights,
-        next,
-        prev,
-        stack,
-        cells,
-        Command::PeekMut { code, value },
-    )
+    door::serve(state, Command::PeekMut { code, value })
 }
 
 // Sets the value of the most recent entry of a plain cache: `Was` with the value replaced, or `Absent`.
-pub fn front_mut(
-    head: Head,
-    codes: &mut [u64],
-    stamps: &mut [u32],
-    values: &mut [u64],
-    weights: &mut [u64],
-    next: &mut [u32],
-    prev: &mut [u32],
-    stack: &mut [u32],
-    cells: &mut [u32],
-    value: u64,
-) -> Said
-    ensures { Serves (FrontMut value) 0 (state head codes.old stamps.old values.old weights.old next.old prev.old stack.old cells.old) (state result.head codes.new stamps.new values.new weights.new next.new prev.new stack.new cells.new) result.answer }
+pub fn front_mut(state: &mut State<'_>, value: u64) -> Answer
+    ensures lists { SameLists state.old state.new }
+    ensures serves { Serves (FrontMut value) 0 (lent state.old) (lent state.new) result }
 {
-    door::serve(
-        head,
-        codes,
-        stamps,
-        values,
-        weights,
-        next,
-        prev,
-        stack,
-        cells,
-        Command::FrontMut(value),
-    )
+    door::serve(state, Command::FrontMut(value))
 }
 
 // Sets the value of the least recent entry of a plain cache: `Was` with the value replaced, or `Absent`.
-pub fn back_mut(
-    head: Head,
-    codes: &mut [u64],
-    stamps: &mut [u32],
-    values: &mut [u64],
-    weights: &mut [u64],
-    next: &mut [u32],
-    prev: &mut [u32],
-    stack: &mut [u32],
-    cells: &mut [u32],
-    value: u64,
-) -> Said
-    ensures { Serves (BackMut value) 0 (state head codes.old stamps.old values.old weights.old next.old prev.old stack.old cells.old) (state result.head codes.new stamps.new values.new weights.new next.new prev.new stack.new cells.new) result.answer }
+pub fn back_mut(state: &mut State<'_>, value: u64) -> Answer
+    ensures lists { SameLists state.old state.new }
+    ensures serves { Serves (BackMut value) 0 (lent state.old) (lent state.new) result }
 {
-    door::serve(
-        head,
-        codes,
-        stamps,
-        values,
-        weights,
-        next,
-        prev,
-        stack,
-        cells,
-        Command::BackMut(value),
-    )
+    door::serve(state, Command::BackMut(value))
 }
 
 // Puts a value in front of a plain cache. A present code keeps its stamp: `Was`; a new one pushes the back out of a full cache: `New`.
-pub fn put(
-    head: Head,
-    codes: &mut [u64],
-    stamps: &mut [u32],
-    values: &mut [u64],
-    weights: &mut [u64],
-    next: &mut [u32],
-    prev: &mut [u32],
-    stack: &mut [u32],
-    cells: &mut [u32],
-    row_codes: &mut [u64],
-    row_stamps: &mut [u32],
-    row_values: &mut [u64],
-    row_weights: &mut [u64],
-    code: Code,
-    stamp: u32,
-    value: u64,
-) -> Said
-    ensures { Calls (Put code stamp value) (state head codes.old stamps.old values.old weights.old next.old prev.old stack.old cells.old) (state result.head codes.new stamps.new values.new weights.new next.new prev.new stack.new cells.new) (fields row_codes.old row_stamps.old row_values.old row_weights.old) (fields row_codes.new row_stamps.new row_values.new row_weights.new) result.answer }
+pub fn put(state: &mut State<'_>, rows: &mut Fields<'_>, code: Code, stamp: u32, value: u64) -> Answer
+    ensures lists { SameLists state.old state.new }
+    ensures row_lists { SameFields rows.old rows.new }
+    ensures calls { Calls (Put code stamp value) (lent state.old) (lent state.new) (held rows.old) (held rows.new) result }
 {
-    door::call(
-        head,
-        codes,
-        stamps,
-        values,
-        weights,
-        next,
-        prev,
-        stack,
-        cells,
-        row_codes,
-        row_stamps,
-        row_values,
-        row_weights,
-        Command::Put { code, stamp, value },
-    )
+    door::call(state, rows, Command::Put { code, stamp, value })
 }
 
 // Puts an entry with a weight in front. A present code leaves first: `Was`; else `New`. What is pushed out is handed out, oldest first.
-pub fn put_with_weight(
-    head: Head,
-    codes: &mut [u64],
-    stamps: &mut [u32],
-    values: &mut [u64],
-    weights: &mut [u64],
-    next: &mut [u32],
-    prev: &mut [u32],
-    stack: &mut [u32],
-    cells: &mut [u32],
-    row_codes: &mut [u64],
-    row_stamps: &mut [u32],
-    row_values: &mut [u64],
-    row_weights: &mut [u64],
-    code: Code,
-    stamp: u32,
-    value: u64,
-    weight: u64,
-) -> Said
-    ensures { Calls (PutWithWeight code stamp value weight) (state head codes.old stamps.old values.old weights.old next.old prev.old stack.old cells.old) (state result.head codes.new stamps.new values.new weights.new next.new prev.new stack.new cells.new) (fields row_codes.old row_stamps.old row_values.old row_weights.old) (fields row_codes.new row_stamps.new row_values.new row_weights.new) result.answer }
+pub fn put_with_weight(state: &mut State<'_>, rows: &mut Fields<'_>, code: Code, stamp: u32, value: u64, weight: u64) -> Answer
+    ensures lists { SameLists state.old state.new }
+    ensures row_lists { SameFields rows.old rows.new }
+    ensures calls { Calls (PutWithWeight code stamp value weight) (lent state.old) (lent state.new) (held rows.old) (held rows.new) result }
 {
-    door::call(
-        head,
-        codes,
-        stamps,
-        values,
-        weights,
-        next,
-        prev,
-        stack,
-        cells,
-        row_codes,
-        row_stamps,
-        row_values,
-        row_weights,
-        Command::PutWithWeight {
+    door::call(state, rows, Command::PutWithWeight {
             code,
             stamp,
             value,
             weight,
-        },
-    )
+        })
 }
 
 // Removes what the rule does not keep and hands it out, front to back: `Done`.
-pub fn retain(
-    head: Head,
-    codes: &mut [u64],
-    stamps: &mut [u32],
-    values: &mut [u64],
-    weights: &mut [u64],
-    next: &mut [u32],
-    prev: &mut [u32],
-    stack: &mut [u32],
-    cells: &mut [u32],
-    row_codes: &mut [u64],
-    row_stamps: &mut [u32],
-    row_values: &mut [u64],
-    row_weights: &mut [u64],
-    rule: Rule,
-) -> Said
-    ensures { Calls (Retain rule) (state head codes.old stamps.old values.old weights.old next.old prev.old stack.old cells.old) (state result.head codes.new stamps.new values.new weights.new next.new prev.new stack.new cells.new) (fields row_codes.old row_stamps.old row_values.old row_weights.old) (fields row_codes.new row_stamps.new row_values.new row_weights.new) result.answer }
+pub fn retain(state: &mut State<'_>, rows: &mut Fields<'_>, rule: Rule) -> Answer
+    ensures lists { SameLists state.old state.new }
+    ensures row_lists { SameFields rows.old rows.new }
+    ensures calls { Calls (Retain rule) (lent state.old) (lent state.new) (held rows.old) (held rows.new) result }
 {
-    door::call(
-        head,
-        codes,
-        stamps,
-        values,
-        weights,
-        next,
-        prev,
-        stack,
-        cells,
-        row_codes,
-        row_stamps,
-        row_values,
-        row_weights,
-        Command::Retain(rule),
-    )
+    door::call(state, rows, Command::Retain(rule))
 }
 
 // Sets the capacity. What no longer fits is handed out, oldest first: `Done`.
-pub fn resize(
-    head: Head,
-    codes: &mut [u64],
-    stamps: &mut [u32],
-    values: &mut [u64],
-    weights: &mut [u64],
-    next: &mut [u32],
-    prev: &mut [u32],
-    stack: &mut [u32],
-    cells: &mut [u32],
-    row_codes: &mut [u64],
-    row_stamps: &mut [u32],
-    row_values: &mut [u64],
-    row_weights: &mut [u64],
-    capacity: u64,
-) -> Said
-    ensures { Calls (Resize capacity) (state head codes.old stamps.old values.old weights.old next.old prev.old stack.old cells.old) (state result.head codes.new stamps.new values.new weights.new next.new prev.new stack.new cells.new) (fields row_codes.old row_stamps.old row_values.old row_weights.old) (fields row_codes.new row_stamps.new row_values.new row_weights.new) result.answer }
+pub fn resize(state: &mut State<'_>, rows: &mut Fields<'_>, capacity: u64) -> Answer
+    ensures lists { SameLists state.old state.new }
+    ensures row_lists { SameFields rows.old rows.new }
+    ensures calls { Calls (Resize capacity) (lent state.old) (lent state.new) (held rows.old) (held rows.new) result }
 {
-    door::call(
-        head,
-        codes,
-        stamps,
-        values,
-        weights,
-        next,
-        prev,
-        stack,
-        cells,
-        row_codes,
-        row_stamps,
-        row_values,
-        row_weights,
-        Command::Resize(capacity),
-    )
+    door::call(state, rows, Command::Resize(capacity))
 }
 
 // Adds an amount to a present value, modulo 2^64, or puts it as a new one, on a plain cache: `Now`.
-pub fn put_or_modify(
-    head: Head,
-    codes: &mut [u64],
-    stamps: &mut [u32],
-    values: &mut [u64],
-    weights: &mut [u64],
-    next: &mut [u32],
-    prev: &mut [u32],
-    stack: &mut [u32],
-    cells: &mut [u32],
-    row_codes: &mut [u64],
-    row_stamps: &mut [u32],
-    row_values: &mut [u64],
-    row_weights: &mut [u64],
-    code: Code,
-    stamp: u32,
-    amount: u64,
-) -> Said
-    ensures { Calls (PutOrModify code stamp amount) (state head codes.old stamps.old values.old weights.old next.old prev.old stack.old cells.old) (state result.head codes.new stamps.new values.new weights.new next.new prev.new stack.new cells.new) (fields row_codes.old row_stamps.old row_values.old row_weights.old) (fields row_codes.new row_stamps.new row_values.new row_weights.new) result.answer }
+pub fn put_or_modify(state: &mut State<'_>, rows: &mut Fields<'_>, code: Code, stamp: u32, amount: u64) -> Answer
+    ensures lists { SameLists state.old state.new }
+    ensures row_lists { SameFields rows.old rows.new }
+    ensures calls { Calls (PutOrModify code stamp amount) (lent state.old) (lent state.new) (held rows.old) (held rows.new) result }
 {
-    door::call(
-        head,
-        codes,
-        stamps,
-        values,
-        weights,
-        next,
-        prev,
-        stack,
-        cells,
-        row_codes,
-        row_stamps,
-        row_values,
-        row_weights,
-        Command::PutOrModify {
+    door::call(state, rows, Command::PutOrModify {
             code,
             stamp,
             amount,
-        },
-    )
+        })
 }
 
 // The same up to a ceiling: above it the value stays, and a present entry has moved to the front.
-pub fn try_put_or_modify(
-    head: Head,
-    codes: &mut [u64],
-    stamps: &mut [u32],
-    values: &mut [u64],
-    weights: &mut [u64],
-    next: &mut [u32],
-    prev: &mut [u32],
-    stack: &mut [u32],
-    cells: &mut [u32],
-    row_codes: &mut [u64],
-    row_stamps: &mut [u32],
-    row_values: &mut [u64],
-    row_weights: &mut [u64],
-    code: Code,
-    stamp: u32,
-    amount: u64,
-    ceiling: u64,
-) -> Said
-    ensures { Calls (TryPutOrModify code stamp amount ceiling) (state head codes.old stamps.old values.old weights.old next.old prev.old stack.old cells.old) (state result.head codes.new stamps.new values.new weights.new next.new prev.new stack.new cells.new) (fields row_codes.old row_stamps.old row_values.old row_weights.old) (fields row_codes.new row_stamps.new row_values.new row_weights.new) result.answer }
+pub fn try_put_or_modify(state: &mut State<'_>, rows: &mut Fields<'_>, code: Code, stamp: u32, amount: u64, ceiling: u64) -> Answer
+    ensures lists { SameLists state.old state.new }
+    ensures row_lists { SameFields rows.old rows.new }
+    ensures calls { Calls (TryPutOrModify code stamp amount ceiling) (lent state.old) (lent state.new) (held rows.old) (held rows.new) result }
 {
-    door::call(
-        head,
-        codes,
-        stamps,
-        values,
-        weights,
-        next,
-        prev,
-        stack,
-        cells,
-        row_codes,
-        row_stamps,
-        row_values,
-        row_weights,
-        Command::TryPutOrModify {
+    door::call(state, rows, Command::TryPutOrModify {
             code,
             stamp,
             amount,
             ceiling,
-        },
-    )
+        })
 }

@@ -7,8 +7,8 @@ ghost use Rattle.model.specs.Desk.{kind_of};
 ghost use Rattle.model.specs.Calls.{peek_call, contains_call, get_call, pop_call, get_mut_call, put_call, put_with_weight_call, put_or_modify_call, try_put_or_modify_call, retain_call, resize_call, wrong_weight};
 ghost use Rattle.model.specs.Perform.{verdict};
 ghost use Rattle.table.specs.Sound.{Gapped};
-ghost use Rattle.store.specs.State.{fields};
-ghost use Rattle.plan.specs.States.{state, Means, Sound};
+ghost use Rattle.state.specs.State.{seen, viewed};
+ghost use Rattle.plan.specs.States.{Means, Sound};
 ghost use Rattle.head.specs.declared.Answer.TheVariants.{Done};
 ghost use Rattle.rows.specs.Views.{Forward, Weighted};
 ghost use Rattle.decide.specs.Views.{Some, Sought, Loaded};
@@ -18,82 +18,55 @@ ghost use Rattle.decide.specs.Numbers.{fitted, admitted, pushes, entered, modifi
 
 use head::{Answer, Code, Command, Head, Refusal, Row, Rule, Slot};
 use plan::{Decision, Plan};
+use state::{FieldsView, View};
 use table::Search;
 
-// What a call looks for in the table: a code, or nothing.
-#[derive(Clone, Copy)]
-enum Wanted {
-    For(Code),
-    Nothing,
-}
-
 // The code that a command looks for, if any.
-fn wanted_by(command: Command) -> Wanted
+fn wanted_by(command: Command) -> Option<Code>
     ensures { result ≡ wanted_by command }
 {
     match command {
-        Command::Peek(code) => Wanted::For(code),
-        Command::Contains(code) => Wanted::For(code),
-        Command::Get(code) => Wanted::For(code),
-        Command::Pop(code) => Wanted::For(code),
-        Command::Put {
-            code,
-            stamp: _,
-            value: _,
-        } => Wanted::For(code),
-        Command::PutWithWeight {
-            code,
-            stamp: _,
-            value: _,
-            weight: _,
-        } => Wanted::For(code),
-        Command::PutOrModify {
-            code,
-            stamp: _,
-            amount: _,
-        } => Wanted::For(code),
-        Command::TryPutOrModify {
-            code,
-            stamp: _,
-            amount: _,
-            ceiling: _,
-        } => Wanted::For(code),
-        Command::GetMut { code, value: _ } => Wanted::For(code),
-        Command::PeekMut { code, value: _ } => Wanted::For(code),
-        _ => Wanted::Nothing,
+        Command::Peek(code)
+        | Command::Contains(code)
+        | Command::Get(code)
+        | Command::Pop(code)
+        | Command::Put { code, .. }
+        | Command::PutWithWeight { code, .. }
+        | Command::PutOrModify { code, .. }
+        | Command::TryPutOrModify { code, .. }
+        | Command::GetMut { code, .. }
+        | Command::PeekMut { code, .. } => Some(code),
+        _ => None,
     }
 }
 
 // The one search of a call, for the code that its command looks for. Where it looks for none no cell is read, and nobody reads the answer.
-fn seek(head: Head, codes: &[u64], cells: &[u32], command: Command) -> Search
-    requires { Gapped (2 * head.slots) cells.now codes.now }
-    ensures { result ≡ search_for (wanted_by command) head.slots cells.now codes.now }
+fn seek(view: &View<'_>, command: Command) -> Search
+    requires { Gapped (2 * view.now.head.slots) view.now.cells.now view.now.fields.codes.now }
+    ensures { result ≡ search_for (wanted_by command) view.now.head.slots view.now.cells.now view.now.fields.codes.now }
 {
-    let Wanted::For(code) = wanted_by(command) else {
+    let Some(code) = wanted_by(command) else {
         return Search::Empty { cell: 0, count: 0 };
     };
-    let n = head.slots as usize;
-    table::look(cells, codes, n, code)
+    table::look(view.cells, view.fields.codes, view.head.slots as usize, code)
 }
 
 // 6 where there are more rows than the lists lent for them hold.
 fn within(room: usize, k: u32, decision: Decision) -> Decision
     ensures { result ≡ fitted room k decision }
 {
-    if room < (k as usize) {
-        return Decision::refuse(Refusal::TooFewRows);
+    if k as usize <= room {
+        decision
+    } else {
+        Decision::refuse(Refusal::TooFewRows)
     }
-    decision
 }
 
 // Whether there is no slot for a new row: every one is taken, and none of k leaves.
 fn no_slot(head: Head, k: u32) -> bool
     ensures { result ≡ (head.live == head.slots && k == 0) }
 {
-    if head.live != head.slots {
-        return false;
-    }
-    k == 0
+    head.live == head.slots && k == 0
 }
 
 // A new row comes in after k leave: 5 where every slot is taken and none leaves, then 6.
@@ -117,31 +90,21 @@ fn admit(head: Head, room: usize, k: u32, row: Row, answer: Answer) -> Decision
 fn pushing(head: Head) -> u32
     ensures { result ≡ pushes head }
 {
-    let live = head.live as u64;
-    if live == head.capacity {
-        return 1;
-    }
-    0
+    u32::from(u64::from(head.live) == head.capacity)
 }
 
 // Whether a weight is not for this kind: any but 0 on a plain cache.
 fn wrong_weight(kind: u32, weight: u64) -> bool
     ensures { result ≡ wrong_weight (kind_of kind) weight }
 {
-    if kind == Head::PLAIN {
-        return weight != 0;
-    }
-    false
+    kind == Head::PLAIN && weight != 0
 }
 
 // Whether the exact sum is above the ceiling.
 fn over(old: u64, amount: u64, ceiling: u64) -> bool
     ensures { result ≡ nat_lt ceiling (old + amount) }
 {
-    if ceiling < old {
-        return true;
-    }
-    ceiling - old < amount
+    ceiling < old || ceiling - old < amount
 }
 
 // An absent code comes in with an amount.
@@ -172,7 +135,7 @@ fn enter(head: Head, room: usize, code: Code, stamp: u32, amount: u64) -> Decisi
 fn modify(slot: Slot, old: u64, amount: u64) -> Decision
     ensures { result ≡ modified slot old amount }
 {
-    let sum = std::num::wrapping_add_u64(old, amount);
+    let sum = old.wrapping_add(amount);
     Decision {
         answer: Answer::Now {
             value: sum,
@@ -188,31 +151,30 @@ fn is_full(head: Head) -> bool
     requires { head.live + head.weight ≤ most_capacity }
     ensures { result ≡ (head.live + head.weight == head.capacity) }
 {
-    let live = head.live as u64;
-    live + head.weight == head.capacity
+    head.live as u64 + head.weight == head.capacity
 }
 
 // `front` and `back`, by the slot at that end.
-fn show(codes: &[u64], stamps: &[u32], values: &[u64], weights: &[u64], slot: Slot) -> Decision
-    requires { Ending slot.0 (fields codes.now stamps.now values.now weights.now) }
-    ensures { result ≡ shown (fields codes.now stamps.now values.now weights.now) slot }
+fn show(fields: &FieldsView<'_>, slot: Slot) -> Decision
+    requires { Ending slot.0 (viewed fields.now) }
+    ensures { result ≡ shown (viewed fields.now) slot }
 {
     if slot.0 == Head::NONE {
         return Decision::say(Answer::Absent);
     }
-    let row = store::row_at(codes, stamps, values, weights, slot);
+    let row = fields.read(slot.0);
     Decision::say(Answer::Entry(row))
 }
 
 // `pop_front` and `pop_back`, by the slot at that end.
-fn pop_end(codes: &[u64], stamps: &[u32], values: &[u64], weights: &[u64], slot: Slot) -> Decision
-    requires { Ending slot.0 (fields codes.now stamps.now values.now weights.now) }
-    ensures { result ≡ popped (fields codes.now stamps.now values.now weights.now) slot }
+fn pop_end(fields: &FieldsView<'_>, slot: Slot) -> Decision
+    requires { Ending slot.0 (viewed fields.now) }
+    ensures { result ≡ popped (viewed fields.now) slot }
 {
     if slot.0 == Head::NONE {
         return Decision::say(Answer::Absent);
     }
-    let row = store::row_at(codes, stamps, values, weights, slot);
+    let row = fields.read(slot.0);
     Decision {
         answer: Answer::Entry(row),
         plan: Plan::Drop(slot),
@@ -230,8 +192,7 @@ fn set_end(kind: u32, values: &[u64], slot: Slot, value: u64) -> Decision
     if slot.0 == Head::NONE {
         return Decision::say(Answer::Absent);
     }
-    let i = slot.0 as usize;
-    let old = values[i];
+    let old = values[slot.0 as usize];
     Decision {
         answer: Answer::Was {
             value: old,
@@ -246,12 +207,7 @@ fn set_end(kind: u32, values: &[u64], slot: Slot, value: u64) -> Decision
 fn contains(search: Search) -> Decision
     ensures { (head : Head) (values : List ℕ) (code : ℕ) → Always (Sought head values search code) (contains_call code) result }
 {
-    let Search::Found {
-        slot: _,
-        cell: _,
-        count: _,
-    } = search
-    else {
+    let Search::Found { .. } = search else {
         return Decision::say(Answer::Flag(false));
     };
     Decision::say(Answer::Flag(true))
@@ -261,16 +217,10 @@ fn peek(values: &[u64], search: Search) -> Decision
     requires { Reached search values.now }
     ensures { (head : Head) (code : ℕ) → Always (Sought head values.now search code) (peek_call code) result }
 {
-    let Search::Found {
-        slot,
-        cell: _,
-        count: _,
-    } = search
-    else {
+    let Search::Found { slot, .. } = search else {
         return Decision::say(Answer::Absent);
     };
-    let i = slot.0 as usize;
-    let value = values[i];
+    let value = values[slot.0 as usize];
     Decision::say(Answer::Is(value))
 }
 
@@ -278,16 +228,10 @@ fn get(values: &[u64], search: Search) -> Decision
     requires { Reached search values.now }
     ensures { (head : Head) (code : ℕ) → Always (Sought head values.now search code) (get_call code) result }
 {
-    let Search::Found {
-        slot,
-        cell: _,
-        count: _,
-    } = search
-    else {
+    let Search::Found { slot, .. } = search else {
         return Decision::say(Answer::Absent);
     };
-    let i = slot.0 as usize;
-    let value = values[i];
+    let value = values[slot.0 as usize];
     Decision {
         answer: Answer::Is(value),
         plan: Plan::Raise(slot),
@@ -298,16 +242,10 @@ fn pop(values: &[u64], search: Search) -> Decision
     requires { Reached search values.now }
     ensures { (head : Head) (code : ℕ) → Always (Sought head values.now search code) (pop_call code) result }
 {
-    let Search::Found {
-        slot,
-        cell: _,
-        count: _,
-    } = search
-    else {
+    let Search::Found { slot, .. } = search else {
         return Decision::say(Answer::Absent);
     };
-    let i = slot.0 as usize;
-    let value = values[i];
+    let value = values[slot.0 as usize];
     Decision {
         answer: Answer::Was { value, rows: 0 },
         plan: Plan::Drop(slot),
@@ -321,16 +259,10 @@ fn get_mut(head: Head, values: &[u64], search: Search, value: u64) -> Decision
     if head.kind != Head::PLAIN {
         return Decision::refuse(Refusal::WrongKind);
     }
-    let Search::Found {
-        slot,
-        cell: _,
-        count: _,
-    } = search
-    else {
+    let Search::Found { slot, .. } = search else {
         return Decision::say(Answer::Absent);
     };
-    let i = slot.0 as usize;
-    let old = values[i];
+    let old = values[slot.0 as usize];
     Decision {
         answer: Answer::Was {
             value: old,
@@ -347,16 +279,10 @@ fn peek_mut(head: Head, values: &[u64], search: Search, value: u64) -> Decision
     if head.kind != Head::PLAIN {
         return Decision::refuse(Refusal::WrongKind);
     }
-    let Search::Found {
-        slot,
-        cell: _,
-        count: _,
-    } = search
-    else {
+    let Search::Found { slot, .. } = search else {
         return Decision::say(Answer::Absent);
     };
-    let i = slot.0 as usize;
-    let old = values[i];
+    let old = values[slot.0 as usize];
     Decision {
         answer: Answer::Was {
             value: old,
@@ -381,12 +307,7 @@ fn put(
     if head.kind != Head::PLAIN {
         return Decision::refuse(Refusal::WrongKind);
     }
-    let Search::Found {
-        slot,
-        cell: _,
-        count: _,
-    } = search
-    else {
+    let Search::Found { slot, .. } = search else {
         let k = pushing(head);
         let row = Row {
             code,
@@ -396,8 +317,7 @@ fn put(
         };
         return admit(head, room, k, row, Answer::New { rows: k });
     };
-    let i = slot.0 as usize;
-    let old = values[i];
+    let old = values[slot.0 as usize];
     Decision {
         answer: Answer::Was {
             value: old,
@@ -422,16 +342,10 @@ fn put_or_modify(
     if head.kind != Head::PLAIN {
         return Decision::refuse(Refusal::WrongKind);
     }
-    let Search::Found {
-        slot,
-        cell: _,
-        count: _,
-    } = search
-    else {
+    let Search::Found { slot, .. } = search else {
         return enter(head, room, code, stamp, amount);
     };
-    let i = slot.0 as usize;
-    let old = values[i];
+    let old = values[slot.0 as usize];
     modify(slot, old, amount)
 }
 
@@ -451,40 +365,27 @@ fn try_put_or_modify(
     if head.kind != Head::PLAIN {
         return Decision::refuse(Refusal::WrongKind);
     }
-    let Search::Found {
-        slot: found,
-        cell: _,
-        count: _,
-    } = search
-    else {
+    let Search::Found { slot, .. } = search else {
         if ceiling < amount {
             return Decision::refuse(Refusal::OverCeiling);
         }
         return enter(head, room, code, stamp, amount);
     };
-    let i = found.0 as usize;
-    let old = values[i];
+    let old = values[slot.0 as usize];
     if over(old, amount, ceiling) {
         return Decision {
             answer: Answer::No(Refusal::OverCeiling),
-            plan: Plan::Raise(found),
+            plan: Plan::Raise(slot),
         };
     }
-    modify(found, old, amount)
+    modify(slot, old, amount)
 }
 
-fn put_with_weight(
-    head: Head,
-    values: &[u64],
-    weights: &[u64],
-    prev: &[u32],
-    search: Search,
-    room: usize,
-    row: Row,
-) -> Decision
-    requires { Some (Loaded head values.now weights.now prev.now search row.code.0) }
-    ensures { Settles (Loaded head values.now weights.now prev.now search row.code.0) (put_with_weight_call row.code.0 row.stamp row.value row.weight) room result }
+fn put_with_weight(view: &View<'_>, search: Search, room: usize, row: Row) -> Decision
+    requires { Some (Loaded view.now.head view.now.fields.values.now view.now.fields.weights.now view.now.links.prev.now search row.code.0) }
+    ensures { Settles (Loaded view.now.head view.now.fields.values.now view.now.fields.weights.now view.now.links.prev.now search row.code.0) (put_with_weight_call row.code.0 row.stamp row.value row.weight) room result }
 {
+    let head = view.head;
     if wrong_weight(head.kind, row.weight) {
         return Decision::refuse(Refusal::WrongKind);
     }
@@ -493,18 +394,12 @@ fn put_with_weight(
     }
     // What entries may take beside the new one: eviction goes on while live + weight + new weight >= C.
     let budget = head.capacity - 1 - row.weight;
-    let Search::Found {
-        slot,
-        cell: _,
-        count: _,
-    } = search
-    else {
-        let k = rows::leaving(head, weights, prev, budget, Slot(Head::NONE));
+    let Search::Found { slot, .. } = search else {
+        let k = rows::leaving(view, budget, None);
         return admit(head, room, k, row, Answer::New { rows: k });
     };
-    let k = rows::leaving(head, weights, prev, budget, slot);
-    let i = slot.0 as usize;
-    let old = values[i];
+    let k = rows::leaving(view, budget, Some(slot));
+    let old = view.fields.values[slot.0 as usize];
     within(
         room,
         k,
@@ -522,23 +417,14 @@ fn put_with_weight(
     )
 }
 
-fn retain(
-    head: Head,
-    codes: &[u64],
-    stamps: &[u32],
-    values: &[u64],
-    weights: &[u64],
-    next: &[u32],
-    room: usize,
-    rule: Rule,
-) -> Decision
-    requires { Some (Forward head (fields codes.now stamps.now values.now weights.now) next.now) }
-    ensures { Settles (Forward head (fields codes.now stamps.now values.now weights.now) next.now) (retain_call rule) room result }
+fn retain(view: &View<'_>, room: usize, rule: Rule) -> Decision
+    requires { Some (Forward view.now.head (viewed view.now.fields) view.now.links.next.now) }
+    ensures { Settles (Forward view.now.head (viewed view.now.fields) view.now.links.next.now) (retain_call rule) room result }
 {
     if Rule::WEIGHT < rule.number {
         return Decision::refuse(Refusal::NotUnderstood);
     }
-    let k = rows::removed_by(head, codes, stamps, values, weights, next, rule);
+    let k = rows::removed_by(view, rule);
     within(
         room,
         k,
@@ -553,20 +439,17 @@ fn retain(
 fn capacity_ok(capacity: u64) -> bool
     ensures { result ≡ capacity_ok capacity }
 {
-    if capacity == 0 {
-        return false;
-    }
-    capacity <= Head::MOST_CAPACITY
+    0 < capacity && capacity <= Head::MOST_CAPACITY
 }
 
-fn resize(head: Head, weights: &[u64], prev: &[u32], room: usize, capacity: u64) -> Decision
-    requires { Some (Weighted head weights.now prev.now) }
-    ensures { Settles (Weighted head weights.now prev.now) (resize_call capacity) room result }
+fn resize(view: &View<'_>, room: usize, capacity: u64) -> Decision
+    requires { Some (Weighted view.now.head view.now.fields.weights.now view.now.links.prev.now) }
+    ensures { Settles (Weighted view.now.head view.now.fields.weights.now view.now.links.prev.now) (resize_call capacity) room result }
 {
     if !capacity_ok(capacity) {
         return Decision::refuse(Refusal::NotUnderstood);
     }
-    let k = rows::leaving(head, weights, prev, capacity, Slot(Head::NONE));
+    let k = rows::leaving(view, capacity, None);
     within(
         room,
         k,
@@ -592,42 +475,31 @@ fn list(live: u32, room: usize, plan: Plan) -> Decision
 }
 
 // Decides a call, with so many rows lent.
-pub fn decide(
-    head: Head,
-    codes: &[u64],
-    stamps: &[u32],
-    values: &[u64],
-    weights: &[u64],
-    next: &[u32],
-    prev: &[u32],
-    stack: &[u32],
-    cells: &[u32],
-    room: usize,
-    command: Command,
-) -> Decision
-    requires { Sound (state head codes.now stamps.now values.now weights.now next.now prev.now stack.now cells.now) }
-    ensures { Settles (Means (state head codes.now stamps.now values.now weights.now next.now prev.now stack.now cells.now)) (verdict command) room result }
+pub fn decide(view: &View<'_>, room: usize, command: Command) -> Decision
+    requires { Sound (seen view.now) }
+    ensures { Settles (Means (seen view.now)) (verdict command) room result }
 {
-    let front = head.front;
-    let back = head.back;
+    let head = view.head;
     let live = head.live as u64;
-    let search = seek(head, codes, cells, command);
+    let fields = &view.fields;
+    let values = view.fields.values;
+    let search = seek(view, command);
     match command {
         Command::Len => Decision::say(Answer::Count(live)),
         Command::Capacity => Decision::say(Answer::Count(head.capacity)),
         Command::Weight => Decision::say(Answer::Count(head.weight)),
         Command::IsEmpty => Decision::say(Answer::Flag(live == 0)),
         Command::IsFull => Decision::say(Answer::Flag(is_full(head))),
-        Command::Front => show(codes, stamps, values, weights, front),
-        Command::Back => show(codes, stamps, values, weights, back),
+        Command::Front => show(fields, head.front),
+        Command::Back => show(fields, head.back),
         Command::Peek(_) => peek(values, search),
         Command::Contains(_) => contains(search),
         Command::List => list(head.live, room, Plan::List),
         Command::ListBack => list(head.live, room, Plan::ListBack),
         Command::Get(_) => get(values, search),
         Command::Pop(_) => pop(values, search),
-        Command::PopFront => pop_end(codes, stamps, values, weights, front),
-        Command::PopBack => pop_end(codes, stamps, values, weights, back),
+        Command::PopFront => pop_end(fields, head.front),
+        Command::PopBack => pop_end(fields, head.back),
         Command::Put { code, stamp, value } => put(head, values, search, room, code, stamp, value),
         Command::PutWithWeight {
             code,
@@ -635,10 +507,7 @@ pub fn decide(
             value,
             weight,
         } => put_with_weight(
-            head,
-            values,
-            weights,
-            prev,
+            view,
             search,
             room,
             Row {
@@ -652,8 +521,8 @@ pub fn decide(
             answer: Answer::Count(live),
             plan: Plan::Clear,
         },
-        Command::Retain(rule) => retain(head, codes, stamps, values, weights, next, room, rule),
-        Command::Resize(capacity) => resize(head, weights, prev, room, capacity),
+        Command::Retain(rule) => retain(view, room, rule),
+        Command::Resize(capacity) => resize(view, room, capacity),
         Command::PutOrModify {
             code,
             stamp,
@@ -665,9 +534,9 @@ pub fn decide(
             amount,
             ceiling,
         } => try_put_or_modify(head, values, search, room, code, stamp, amount, ceiling),
-        Command::GetMut { code: _, value } => get_mut(head, values, search, value),
-        Command::PeekMut { code: _, value } => peek_mut(head, values, search, value),
-        Command::FrontMut(value) => set_end(head.kind, values, front, value),
-        Command::BackMut(value) => set_end(head.kind, values, back, value),
+        Command::GetMut { value, .. } => get_mut(head, values, search, value),
+        Command::PeekMut { value, .. } => peek_mut(head, values, search, value),
+        Command::FrontMut(value) => set_end(head.kind, values, head.front, value),
+        Command::BackMut(value) => set_end(head.kind, values, head.back, value),
     }
 }

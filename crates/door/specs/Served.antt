@@ -10,6 +10,7 @@ use Rattle.head.specs.declared.Form.TheVariants.{Reading, Listing, Acting, Handi
 use Rattle.head.specs.declared.Row.{Row}
 use Rattle.head.specs.Forms.{form_of}
 use Rattle.head.specs.Fields.{Fields}
+pub use Rattle.state.specs.Entries.{shortest}
 use Rattle.model.specs.Perform.{Cache, verdict, handed, perform}
 use Rattle.rows.specs.Written.{Written}
 use Rattle.plan.specs.States.{State, Means, Sound, TailsKept}
@@ -26,10 +27,6 @@ pub record Follows (m : Command) (lent : ℕ) (s t : State) (a : Answer) (c : Ca
 pub record Serves (m : Command) (lent : ℕ) (s t : State) (a : Answer) : Type 0 where
   pub sound : (c : Cache) → Means s c → Follows m lent s t a c
   pub unsound : (Sound s → ⊥) → (a ≡ No Unsound) × (t ≡ s)
-
--- how many rows four lists hold: as many as the shortest
-abbrev pub shortest : Fields → ℕ
-shortest rows = min (length rows.codes) (min (length rows.stamps) (min (length rows.values) (length rows.weights)))
 
 -- a call, whole: the state, the answer, and the rows
 pub record Calls (m : Command) (s t : State) (rows rows' : Fields) (a : Answer) : Type 0 where

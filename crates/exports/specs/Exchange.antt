@@ -1,6 +1,6 @@
 -- What the exported functions promise: the calls of the cache on the head and the command that the lists hold, and the lists written back.
 -- Assumes nothing.
-use Rattle.std.specs.Prelude.{ℕ, cond, List, ◌≡◌, ltb, length}
+use Rattle.std.specs.Prelude.{ℕ, cond, List, Result, Ok, Err, ◌≡◌, ltb, length}
 use Rattle.head.specs.declared.Head.{Head}
 use Rattle.head.specs.declared.Answer.{Answer}
 use Rattle.head.specs.declared.Command.{Command}
@@ -9,8 +9,7 @@ use Rattle.head.specs.Fresh.{fresh_head}
 use Rattle.head.specs.Refusals.{number_of}
 use Rattle.plan.specs.States.{State, state}
 use Rattle.door.specs.Served.{Calls, Tells}
-use Rattle.opening.specs.declared.Opened.{Opened}
-use Rattle.opening.specs.declared.Opened.TheVariants.{Cache as Began, No}
+use Rattle.head.specs.declared.Refusal.{Refusal}
 use Rattle.opening.specs.Begun.{Opens}
 use Rattle.layout.specs.Heads.{head_left}
 use Rattle.layout.specs.Numbered.{numbers_of, numbers_left}
@@ -20,18 +19,18 @@ abbrev pub kind_for : ℕ → ℕ → ℕ
 kind_for kind room = cond (ltb room 9) 2 kind
 
 -- 0, or the number of the refusal
-abbrev pub opened_number : Opened → ℕ
-opened_number (Began h) = 0
-opened_number (No r) = number_of r
+abbrev pub opened_number : Result Head Refusal → ℕ
+opened_number (Ok h) = 0
+opened_number (Err r) = number_of r
 
 -- the head's list after opening
-abbrev pub opened_left : List ℕ → Opened → List ℕ
-opened_left l (Began h) = head_left 0 l h
-opened_left l (No r) = l
+abbrev pub opened_left : List ℕ → Result Head Refusal → List ℕ
+opened_left l (Ok h) = head_left 0 l h
+opened_left l (Err r) = l
 
 -- opening, from the lists at entry to those at exit
 pub record Opening (kind capacity slots : ℕ) (head head' codes stamps values weights nexts prevs stack cells codes' stamps' values' weights' nexts' prevs' stack' cells' : List ℕ) (r : ℕ) : Type 0 where
-  pub said : Opened
+  pub said : Result Head Refusal
   pub opens : Opens (kind_for kind (length head)) capacity slots (state (fresh_head (kind_for kind (length head)) capacity slots) codes stamps values weights nexts prevs stack cells) (state (fresh_head (kind_for kind (length head)) capacity slots) codes' stamps' values' weights' nexts' prevs' stack' cells') said
   pub number : r ≡ opened_number said
   pub list : head' ≡ opened_left head said

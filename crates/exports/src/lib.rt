@@ -2,13 +2,13 @@
 #![tactic(auto)]
 
 ghost use Rattle.std.specs.Prelude.{◌≡◌, length};
-ghost use Rattle.store.specs.State.{fields};
-ghost use Rattle.plan.specs.States.{state};
+ghost use Rattle.state.specs.State.{fields, state};
 ghost use Rattle.layout.specs.Heads.{head_of};
 ghost use Rattle.layout.specs.Commands.{command_in};
 ghost use Rattle.exports.specs.Exchange.{kind_for, opened_number, opened_left, Opening, Reading, Calling};
 
-use opening::Opened;
+use head::{Head, Refusal};
+use state::{Fields, FieldsView, Links, LinksView, State, View};
 
 // The kind to open with: none that exists where the head's list is too short for a head.
 fn kind_for(kind: u32, room: usize) -> u32
@@ -18,15 +18,15 @@ fn kind_for(kind: u32, room: usize) -> u32
 }
 
 // Writes the head of a cache that was opened, and gives 0; or gives the refusal's number.
-fn put_opened(list: &mut [u64], opened: Opened) -> u32
+fn put_opened(list: &mut [u64], opened: Result<Head, Refusal>) -> u32
     ensures { (result ≡ opened_number opened) × (list.new ≡ opened_left list.old opened) }
 {
     match opened {
-        Opened::Cache(head) => {
+        Ok(head) => {
             layout::put_head(list, head, 0);
             0
-        },
-        Opened::No(why) => why.number(),
+        }
+        Err(why) => why.number(),
     }
 }
 
@@ -48,9 +48,22 @@ pub extern "C" fn weavestall_open(
 ) -> u32
     ensures { Opening kind capacity slots head.old head.new codes.old stamps.old values.old weights.old next.old prev.old stack.old cells.old codes.new stamps.new values.new weights.new next.new prev.new stack.new cells.new result }
 {
-    let allowed = kind_for(kind, head.len());
+    let mut state = State {
+        head: Head::fresh(kind, capacity, slots),
+        fields: Fields {
+            codes,
+            stamps,
+            values,
+            weights,
+        },
+        links: Links { next, prev, stack },
+        cells,
+    };
     let opened = opening::open(
-        allowed, capacity, slots, codes, stamps, values, weights, next, prev, stack, cells,
+        kind_for(kind, head.len()),
+        capacity,
+        slots,
+        &mut state,
     );
     put_opened(head, opened)
 }
@@ -76,24 +89,24 @@ pub extern "C" fn weavestall_read(
 ) -> u32
     ensures { Reading (command_in command.now) (state (head_of head.now (length answer.old)) codes.now stamps.now values.now weights.now next.now prev.now stack.now cells.now) (fields row_codes.old row_stamps.old row_values.old row_weights.old) (fields row_codes.new row_stamps.new row_values.new row_weights.new) answer.old answer.new result }
 {
-    let found = layout::head_at(head, answer.len());
-    let asked = layout::command_at(command);
-    let said = door::tell(
-        found,
-        codes,
-        stamps,
-        values,
-        weights,
-        next,
-        prev,
-        stack,
+    let view = View {
+        head: layout::head_at(head, answer.len()),
+        fields: FieldsView {
+            codes,
+            stamps,
+            values,
+            weights,
+        },
+        links: LinksView { next, prev, stack },
         cells,
-        row_codes,
-        row_stamps,
-        row_values,
-        row_weights,
-        asked,
-    );
+    };
+    let mut rows = Fields {
+        codes: row_codes,
+        stamps: row_stamps,
+        values: row_values,
+        weights: row_weights,
+    };
+    let said = door::tell(&view, &mut rows, layout::command_at(command));
     layout::put_answer(answer, said)
 }
 
@@ -118,27 +131,25 @@ pub extern "C" fn weavestall_call(
 ) -> u32
     ensures { Calling (command_in command.now) (state (head_of head.old (length answer.old)) codes.old stamps.old values.old weights.old next.old prev.old stack.old cells.old) codes.new stamps.new values.new weights.new next.new prev.new stack.new cells.new (fields row_codes.old row_stamps.old row_values.old row_weights.old) (fields row_codes.new row_stamps.new row_values.new row_weights.new) head.old head.new answer.old answer.new result }
 {
-    let found = layout::head_at(head, answer.len());
-    let asked = layout::command_at(command);
-    let done = door::call(
-        found,
-        codes,
-        stamps,
-        values,
-        weights,
-        next,
-        prev,
-        stack,
+    let mut state = State {
+        head: layout::head_at(head, answer.len()),
+        fields: Fields {
+            codes,
+            stamps,
+            values,
+            weights,
+        },
+        links: Links { next, prev, stack },
         cells,
-        row_codes,
-        row_stamps,
-        row_values,
-        row_weights,
-        asked,
-    );
-    let left = done.head;
-    let said = done.answer;
+    };
+    let mut rows = Fields {
+        codes: row_codes,
+        stamps: row_stamps,
+        values: row_values,
+        weights: row_weights,
+    };
+    let said = door::call(&mut state, &mut rows, layout::command_at(command));
     let number = layout::put_answer(answer, said);
-    layout::put_head(head, left, number);
+    layout::put_head(head, state.head, number);
     number
 }

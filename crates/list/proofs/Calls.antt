@@ -47,20 +47,22 @@ module _ (h : Head) (nx pv st : List ℕ) (s : ℕ) (p : Held h nx pv st s) wher
   pub held_room : Room h nx pv s
   held_room = room p.linked p.place s p.there
 
-  module _ (m : Head) (nx1 pv1 : List ℕ) (u : Unlinked h m nx pv nx1 pv1 s) where
-    pub held_stackable : Stackable m nx1 pv1 st s
-    held_stackable = stackable (u.linked st p.order p.free p.others p.place p.there p.linked)
+  module _ (m : Head) (nx1 pv1 st1 : List ℕ) (u : Unlinked h m nx pv nx1 pv1 s) (q : st1 ≡ st) where
+    pub held_stackable : Stackable m nx1 pv1 st1 s
+    held_stackable = rw q (stackable (u.linked st p.order p.free p.others p.place p.there p.linked))
 
-    pub removed : (r : Head) (nx' pv' st' : List ℕ) → Released m r nx1 pv1 st nx' pv' st' s → Removed h r nx pv st nx' pv' st' s
-    removed r nx' pv' st' g = record {
-      rest = rest_trans u.rest g.rest;
-      next_tail = tail_trans u.next_tail (tail_at u.rest.slots g.next_tail);
-      prev_tail = tail_trans u.prev_tail (tail_at u.rest.slots g.prev_tail);
-      stack_tail = tail_at u.rest.slots g.stack_tail;
-      linked = λ o f t i e d.
-          subst⁻¹ (λ (l : List ℕ). Linked r nx' pv' st' (without i o) (f ++ l) t) e (g.linked (without i o) f t (u.linked st o f t i e d));
-      kept = λ o f t i e d. kept_trans (kept_fewer s (u.kept st o f t i e d)) (g.kept (without i o) f t (u.linked st o f t i e d));
-    }
+    pub removed : (r : Head) (nx' pv' st' : List ℕ) → Released m r nx1 pv1 st1 nx' pv' st' s → Removed h r nx pv st nx' pv' st' s
+    removed r nx' pv' st' g₁ =
+        let g : Released m r nx1 pv1 st nx' pv' st' s = subst (λ (l : List ℕ). Released m r nx1 pv1 l nx' pv' st' s) q g₁ in
+        record {
+          rest = rest_trans u.rest g.rest;
+          next_tail = tail_trans u.next_tail (tail_at u.rest.slots g.next_tail);
+          prev_tail = tail_trans u.prev_tail (tail_at u.rest.slots g.prev_tail);
+          stack_tail = tail_at u.rest.slots g.stack_tail;
+          linked = λ o f t i e d.
+              subst⁻¹ (λ (l : List ℕ). Linked r nx' pv' st' (without i o) (f ++ l) t) e (g.linked (without i o) f t (u.linked st o f t i e d));
+          kept = λ o f t i e d. kept_trans (kept_fewer s (u.kept st o f t i e d)) (g.kept (without i o) f t (u.linked st o f t i e d));
+        }
 
 -- ---- taken, then put in front
 
@@ -68,9 +70,9 @@ module _ (h : Head) (nx pv st : List ℕ) (p : Spare h nx pv st) (t : Taken) (st
   pub taken_room : Room t.head nx pv t.slot.0
   taken_room = room_loose (g.linked nx pv p.order p.free p.others p.linked)
 
-  pub pushed : (r : Head) (nx' pv' : List ℕ) → Fronted t.head r nx pv nx' pv' t.slot.0
-      → Pushed h (record { head = r; slot = t.slot }) nx pv st nx' pv' st'
-  pushed r nx' pv' k = record {
+  pub pushed : (r : Head) (nx' pv' st1 : List ℕ) → st1 ≡ st' → Fronted t.head r nx pv nx' pv' t.slot.0
+      → Pushed h (record { head = r; slot = t.slot }) nx pv st nx' pv' st1
+  pushed r nx' pv' st1 q k = rw q record {
     rest = rest_trans g.rest k.rest;
     next_tail = tail_at g.rest.slots k.next_tail;
     prev_tail = tail_at g.rest.slots k.prev_tail;

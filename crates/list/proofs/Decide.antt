@@ -290,7 +290,7 @@ sound_links h nx pv st s = desc_passes h nx pv st s.free s.order s.linked
 -- ---- as the code runs them
 
 module _ (h : Head) (nx pv st : List ℕ) where
-  answer : (r : Bool) → r ≡ links_ok h nx pv st → Inspected h nx pv st r
+  pub answer : (r : Bool) → r ≡ links_ok h nx pv st → Inspected h nx pv st r
   answer r e = record { sound = λ q. links_sound h nx pv st (sym e ∙ q); passes = λ s. e ∙ sound_links h nx pv st s }
 
   pub answer_1 : numbers_ok h (length nx) (length pv) (length st) ≡ false → Inspected h nx pv st false

@@ -1,17 +1,26 @@
 -- Filled links describe no slot.
 -- Assumes nothing.
-use Prim.Native.Nat.{ℕ, ◌≤◌, ◌<◌}
+use Prim.Native.Nat.{ℕ, suc, ◌+◌, ◌≤◌, ◌<◌}
 use native.Mathlib.Omega.{arith}
+use native.Mathlib.Numerals.{add-one}
 use mathlib.Core.Path.{◌≡◌, refl, sym, ◌∙◌}
 use mathlib.Core.List.{List, ◌++◌}
-use lib.ListN.{length, get_or, drop, replicate, length-append, length-replicate, length-drop, get_or-replicate, get_or-append}
-use lib.Seq.{drop_at}
+use lib.ListN.{length, get_or, set, drop, replicate, length-append, length-replicate, length-drop, get_or-replicate, get_or-append}
+use lib.Seq.{drop_at, drop-cons, set_at, append_snoc}
+use Rattle.std.proofs.lemmas.List.{replicate_more}
 use Rattle.head.specs.declared.Head.{Head}
 use Rattle.head.specs.Bounds.{none_mark, unused_mark}
 use Rattle.head.specs.Tails.{Tail}
 use Rattle.list.specs.Links.{Long}
 use Rattle.list.specs.Promises.{Cleared}
 use Rattle.list.proofs.Marks.{below_out}
+
+-- one more place of a list is filled
+pub fill_step : {A : Type 0} (i : ℕ) (v : A) (l : List A) → i < length l
+    → set (replicate i v ++ drop i l) i v ≡ replicate (i + 1) v ++ drop (i + 1) l
+fill_step i v l h =
+    rw (drop-cons l i v h, ← replicate_more i v, add-one, append_snoc)
+    (set_at (replicate i v) (get_or l i v) (drop (suc i) l) v i (length-replicate i v))
 
 module _ (n : ℕ) (l : List ℕ) (v : ℕ) {m : List ℕ} (e : m ≡ replicate n v ++ drop n l) where
   pub fill_tail : n ≤ length l → Tail n l m

@@ -3,15 +3,17 @@
 use Prim.Native.Nat.{ℕ, suc, ◌+◌, ◌-◌, ◌≤◌, ◌<◌}
 use native.Mathlib.Omega.{arith}
 use native.Mathlib.Numerals.{add-one}
-use mathlib.Core.Path.{◌≡◌, refl, sym, ap, ◌∙◌}
+use mathlib.Core.Path.{◌≡◌, refl, sym, ap, ◌∙◌, subst}
 use mathlib.Core.Bool.{Bool, true, false, ◌&&◌}
 use mathlib.Core.List.{List}
-use lib.ListN.{get_or}
+use lib.ListN.{length, get_or}
 use lib.Dec.{eqb, ltb}
-use borrow.Author.Tests.{lt-ltb, le-ltb, le-leb, eq-eqb, ne_eqb}
-use Rattle.head.specs.declared.Head.{Head}
-use Rattle.head.specs.Bounds.{none_mark, most_slots}
-use Rattle.list.specs.Inspect.{all_from, walk_ok, numbers_ok}
+use Rattle.std.specs.Bool.{MatchBool}
+use Rattle.std.specs.List.{AllWithin, HoldsAt, range_with_len}
+use Rattle.std.proofs.lemmas.List.FromFn.{get_or-range_with_len, length-range_with_len}
+use Rattle.head.specs.Bounds.{none_mark}
+use Rattle.list.specs.Inspect.{all_from, walk_ok}
+use Rattle.list.proofs.Walked.{all_at, all_of}
 
 pub all_step : (n k : ℕ) (f : ℕ → Bool) → k < n → all_from (n - k) k f ≡ (f k && all_from (n - (k + 1)) (k + 1) f)
 unfolding all_from
@@ -32,32 +34,37 @@ all_end n k f h = let e : n - k ≡ 0 = omega arith in ap (λ (j : ℕ). all_fro
 pub all_start : (n : ℕ) (f : ℕ → Bool) → all_from n 0 f ≡ all_from (n - 0) 0 f
 all_start n f = let e : n ≡ n - 0 = omega arith in ap (λ (j : ℕ). all_from j 0 f) e
 
+-- what an `all` over a range answers
+pub all_from_is : (a n : ℕ) (f : ℕ → Bool) (r : Bool)
+    → MatchBool r
+    (AllWithin (λ k. f k ≡ true) (range_with_len a n) 0 (length (range_with_len a n)))
+    ((k : ℕ) × (k < length (range_with_len a n)) × HoldsAt (λ k. f k ≡ false) (range_with_len a n) k)
+    → r ≡ all_from n a f
+all_from_is a n f true h =
+    sym
+    (all_of n a f (λ j lo hi.
+    let i : j - a < n = omega arith in
+    let e : get_or (range_with_len a n) (j - a) 0 ≡ j = get_or-range_with_len a n (j - a) 0 i ∙ omega arith in
+    subst (λ (m : ℕ). f m ≡ true) e (h (j - a) 0 (omega arith) (omega (arith, length-range_with_len a n)))))
+all_from_is a n f false h = go (all_from n a f) refl
+  where
+    go : (b : Bool) → all_from n a f ≡ b → false ≡ b
+    go false e = refl
+    go true e =
+        let i : h.0 < n = omega (arith, h.1, length-range_with_len a n) in
+        let e' : get_or (range_with_len a n) h.0 0 ≡ a + h.0 = get_or-range_with_len a n h.0 0 i in
+        sym (subst (λ (m : ℕ). f m ≡ false) e' (h.2 0)) ∙ all_at n a f e (a + h.0) (omega arith) (omega arith)
+
 module _ (nx pv : List ℕ) (top back : ℕ) where
-  pub walk_step : (left last cur : ℕ) → 0 < left
-      → walk_ok nx pv top back left last cur ≡ (ltb cur top && (eqb (get_or pv cur 0) last && walk_ok nx pv top back (left - 1) cur (get_or nx cur 0)))
+  pub walk_step : (n k last cur : ℕ) → k < n
+      → walk_ok nx pv top back (n - k) last cur ≡ (ltb cur top && (eqb (get_or pv cur 0) last && walk_ok nx pv top back (n - (k + 1)) cur (get_or nx cur 0)))
   unfolding walk_ok
-  walk_step left last cur h =
-      let e : left ≡ suc (left - 1) = omega arith in
+  walk_step n k last cur h =
+      let e : n - k ≡ suc (n - (k + 1)) = omega arith in
       ap (λ (j : ℕ). walk_ok nx pv top back j last cur) e
 
-  pub walk_far : (left last cur : ℕ) → 0 < left → top ≤ cur → walk_ok nx pv top back left last cur ≡ false
-  walk_far left last cur h g = walk_step left last cur h ∙ rw (le-ltb cur top g) refl
-
-  pub walk_miss : (left last cur : ℕ) → 0 < left → cur < top → (get_or pv cur 0 ≡ last → ⊥) → walk_ok nx pv top back left last cur ≡ false
-  walk_miss left last cur h g d = walk_step left last cur h ∙ rw (lt-ltb cur top g, ne_eqb (get_or pv cur 0) last d) refl
-
-  pub walk_more : (left last cur : ℕ) → 0 < left → cur < top → get_or pv cur 0 ≡ last
-      → walk_ok nx pv top back left last cur ≡ walk_ok nx pv top back (left - 1) cur (get_or nx cur 0)
-  walk_more left last cur h g d = walk_step left last cur h ∙ rw (lt-ltb cur top g, eq-eqb (get_or pv cur 0) last d) refl
-
-  pub walk_end : (left last cur : ℕ) → left ≤ 0 → walk_ok nx pv top back left last cur ≡ (eqb cur none_mark && eqb last back)
+  pub walk_end : (n k last cur : ℕ) → n ≤ k → walk_ok nx pv top back (n - k) last cur ≡ (eqb cur none_mark && eqb last back)
   unfolding walk_ok
-  walk_end left last cur h =
-      let e : left ≡ 0 = omega arith in
+  walk_end n k last cur h =
+      let e : n - k ≡ 0 = omega arith in
       ap (λ (j : ℕ). walk_ok nx pv top back j last cur) e
-
--- all tests of the head's numbers but the last pass
-pub numbers_last : (h : Head) (a b c : ℕ) → h.slots ≤ most_slots → h.slots ≤ a → h.slots ≤ b → h.slots ≤ c → h.top.0 ≤ h.slots → h.live ≤ h.top.0
-    → eqb h.depth.0 (h.top.0 - h.live) ≡ numbers_ok h a b c
-unfolding numbers_ok
-numbers_last h a b c p q r s t u = rw (le-leb _ _ p, le-leb _ _ q, le-leb _ _ r, le-leb _ _ s, le-leb _ _ t, le-leb _ _ u) refl

@@ -1,232 +1,132 @@
-// What deciding needs, on lists that are only read: how many must leave, and rows for the caller.
+// What deciding needs, on a state that is only read: how many must leave, and rows for the caller.
 #![tactic(auto)]
 
 ghost use Rattle.std.specs.Prelude.{◌≡◌, ◌+◌, ◌-◌, ◌<◌, not, length};
 ghost use Rattle.model.specs.Desk.{keeps as keeping};
 ghost use Rattle.model.specs.Codes.{one};
-ghost use Rattle.store.specs.State.{fields};
-ghost use Rattle.rows.specs.Views.{past_at, cost_at, Countable};
+ghost use Rattle.state.specs.State.{held, seen, SameFields};
+ghost use Rattle.rows.specs.Views.{mark_of, past_at, cost_at, Countable};
 ghost use Rattle.rows.specs.Answers.{Budgeted, Leaves, Read, Removes, Aged, WroteOldest, Offered, Handed, Sweepable, WroteRemoved, Listable, WroteAll, ListableBack, WroteBack};
 
 use head::{Head, Row, Rule, Slot};
+use state::{Fields, View};
 
 // The slot itself, or the one ahead of it where it is the one to skip.
-fn past(prev: &[u32], slot: Slot, skip: Slot) -> Slot
+fn past(prev: &[u32], slot: Slot, skip: Option<Slot>) -> Slot
     requires { slot.0 < length prev.now }
-    ensures { result.0 ≡ past_at prev.now skip.0 slot.0 }
+    ensures { result.0 ≡ past_at prev.now (mark_of skip) slot.0 }
 {
-    if slot.0 == skip.0 {
-        return list::ahead(prev, slot);
+    match skip {
+        Some(gone) if gone.0 == slot.0 => list::ahead(prev, slot),
+        _ => slot,
     }
-    slot
 }
 
 // What the entries take of the capacity together, without the one in the slot to skip.
-fn taken_up(head: Head, weights: &[u64], skip: Slot) -> u64
-    requires { Countable head weights.now skip.0 }
-    ensures { result ≡ head.live + head.weight - cost_at weights.now skip.0 }
+fn taken_up(head: Head, weights: &[u64], skip: Option<Slot>) -> u64
+    requires { Countable head weights.now (mark_of skip) }
+    ensures { result ≡ head.live + head.weight - cost_at weights.now (mark_of skip) }
 {
     let all = (head.live as u64) + head.weight;
-    if skip.0 == Head::NONE {
-        return all;
+    match skip {
+        Some(gone) => all - (weights[gone.0 as usize] + 1),
+        None => all,
     }
-    let i = skip.0 as usize;
-    all - (weights[i] + 1)
 }
 
-// How many must leave from the back until what stays takes at most the budget. The entry in the slot to skip counts as gone; NONE skips no slot.
-pub fn leaving(head: Head, weights: &[u64], prev: &[u32], budget: u64, skip: Slot) -> u32
-    requires { Budgeted head weights.now prev.now skip.0 }
-    ensures { Leaves head weights.now prev.now budget skip.0 result }
+// How many must leave from the back until what stays takes at most the budget. The entry in the slot to skip counts as gone.
+pub fn leaving(view: &View<'_>, budget: u64, skip: Option<Slot>) -> u32
+    requires { Budgeted view.now.head (seen view.now).fields.weights (seen view.now).prevs (mark_of skip) }
+    ensures { Leaves view.now.head (seen view.now).fields.weights (seen view.now).prevs budget (mark_of skip) result }
 {
-    let mut left = taken_up(head, weights, skip);
-    let mut slot = head.back;
+    let weights = view.fields.weights;
+    let prev = view.links.prev;
+    let mut left = taken_up(view.head, weights, skip);
+    let mut slot = view.head.back;
     let mut k: u32 = 0;
+    // Entries are counted as they are passed, for as long as the budget is too small: no range is known before.
     while budget < left {
         let here = past(prev, slot, skip);
-        let i = here.0 as usize;
-        left -= weights[i] + 1;
+        left -= weights[here.0 as usize] + 1;
         slot = list::ahead(prev, here);
         k += 1;
     }
     k
 }
 
-// 1 where a rule removes an entry, 0 where it keeps it.
-fn goes(rule: Rule, row: Row) -> u32
-    ensures { result ≡ one (not (keeping rule row)) }
-{
-    if rules::keeps(rule, row) {
-        return 0;
-    }
-    1
-}
-
 // How many entries a rule does not keep.
-pub fn removed_by(
-    head: Head,
-    codes: &[u64],
-    stamps: &[u32],
-    values: &[u64],
-    weights: &[u64],
-    next: &[u32],
-    rule: Rule,
-) -> u32
-    requires { Read head (fields codes.now stamps.now values.now weights.now) next.now }
-    ensures { Removes head (fields codes.now stamps.now values.now weights.now) next.now rule result }
+pub fn removed_by(view: &View<'_>, rule: Rule) -> u32
+    requires { Read view.now.head (seen view.now).fields (seen view.now).nexts }
+    ensures { Removes view.now.head (seen view.now).fields (seen view.now).nexts rule result }
 {
-    let mut slot = head.front;
-    let mut left = head.live;
+    let mut slot = view.head.front;
     let mut n: u32 = 0;
-    while 0 < left {
-        let row = store::row_at(codes, stamps, values, weights, slot);
-        n += goes(rule, row);
-        slot = list::after(next, slot);
-        left -= 1;
+    for _ in 0..view.head.live {
+        let row = view.fields.read(slot.0);
+        n += u32::from(!rules::keeps(rule, row));
+        slot = list::after(view.links.next, slot);
     }
     n
 }
 
-// Writes the k oldest entries as rows, oldest first. The entry in the slot to skip counts as gone; NONE skips no slot.
-pub fn write_oldest(
-    head: Head,
-    codes: &[u64],
-    stamps: &[u32],
-    values: &[u64],
-    weights: &[u64],
-    prev: &[u32],
-    k: u32,
-    skip: Slot,
-    row_codes: &mut [u64],
-    row_stamps: &mut [u32],
-    row_values: &mut [u64],
-    row_weights: &mut [u64],
-)
-    requires { Aged head (fields codes.now stamps.now values.now weights.now) prev.now k skip.0 (fields row_codes.old row_stamps.old row_values.old row_weights.old) }
-    ensures { WroteOldest head (fields codes.now stamps.now values.now weights.now) prev.now k skip.0 (fields row_codes.old row_stamps.old row_values.old row_weights.old) (fields row_codes.new row_stamps.new row_values.new row_weights.new) }
+// Writes the k oldest entries as rows, oldest first. The entry in the slot to skip counts as gone.
+pub fn write_oldest(view: &View<'_>, k: u32, skip: Option<Slot>, rows: &mut Fields<'_>)
+    requires { Aged view.now.head (seen view.now).fields (seen view.now).prevs k (mark_of skip) (held rows.old) }
+    ensures lists { SameFields rows.old rows.new }
+    ensures wrote { WroteOldest view.now.head (seen view.now).fields (seen view.now).prevs k (mark_of skip) (held rows.old) (held rows.new) }
 {
-    let mut oldest = head.back;
-    let mut j: u32 = 0;
-    while j < k {
+    let prev = view.links.prev;
+    let mut oldest = view.head.back;
+    for j in 0..k {
         let here = past(prev, oldest, skip);
-        let row = store::row_at(codes, stamps, values, weights, here);
-        store::write(row_codes, row_stamps, row_values, row_weights, j, row);
+        rows.write(j, view.fields.read(here.0));
         oldest = list::ahead(prev, here);
-        j += 1;
     }
 }
 
 // Writes a row at place n where the rule does not keep it, and answers the place of the next row.
-fn hand_out(
-    row_codes: &mut [u64],
-    row_stamps: &mut [u32],
-    row_values: &mut [u64],
-    row_weights: &mut [u64],
-    n: u32,
-    rule: Rule,
-    row: Row,
-) -> u32
-    requires { Offered (fields row_codes.old row_stamps.old row_values.old row_weights.old) n rule row }
-    ensures { Handed n rule row result (fields row_codes.old row_stamps.old row_values.old row_weights.old) (fields row_codes.new row_stamps.new row_values.new row_weights.new) }
+fn hand_out(rows: &mut Fields<'_>, n: u32, rule: Rule, row: Row) -> u32
+    requires { Offered (held rows.old) n rule row }
+    ensures lists { SameFields rows.old rows.new }
+    ensures handed { Handed n rule row result (held rows.old) (held rows.new) }
 {
     if rules::keeps(rule, row) {
         return n;
     }
-    store::write(row_codes, row_stamps, row_values, row_weights, n, row);
+    rows.write(n, row);
     n + 1
 }
 
 // Writes the entries that a rule does not keep as rows, front to back.
-pub fn write_removed(
-    head: Head,
-    codes: &[u64],
-    stamps: &[u32],
-    values: &[u64],
-    weights: &[u64],
-    next: &[u32],
-    rule: Rule,
-    row_codes: &mut [u64],
-    row_stamps: &mut [u32],
-    row_values: &mut [u64],
-    row_weights: &mut [u64],
-)
-    requires { Sweepable head (fields codes.now stamps.now values.now weights.now) next.now rule (fields row_codes.old row_stamps.old row_values.old row_weights.old) }
-    ensures { WroteRemoved head (fields codes.now stamps.now values.now weights.now) next.now rule (fields row_codes.old row_stamps.old row_values.old row_weights.old) (fields row_codes.new row_stamps.new row_values.new row_weights.new) }
+pub fn write_removed(view: &View<'_>, rule: Rule, rows: &mut Fields<'_>)
+    requires { Sweepable view.now.head (seen view.now).fields (seen view.now).nexts rule (held rows.old) }
+    ensures lists { SameFields rows.old rows.new }
+    ensures wrote { WroteRemoved view.now.head (seen view.now).fields (seen view.now).nexts rule (held rows.old) (held rows.new) }
 {
-    let mut slot = head.front;
-    let mut left = head.live;
+    let mut slot = view.head.front;
     let mut n: u32 = 0;
-    while 0 < left {
-        let row = store::row_at(codes, stamps, values, weights, slot);
-        n = hand_out(row_codes, row_stamps, row_values, row_weights, n, rule, row);
-        slot = list::after(next, slot);
-        left -= 1;
+    for _ in 0..view.head.live {
+        let row = view.fields.read(slot.0);
+        n = hand_out(rows, n, rule, row);
+        slot = list::after(view.links.next, slot);
     }
 }
 
 // Writes all entries as rows, front to back: what a rule removes that keeps none.
-pub fn write_all(
-    head: Head,
-    codes: &[u64],
-    stamps: &[u32],
-    values: &[u64],
-    weights: &[u64],
-    next: &[u32],
-    row_codes: &mut [u64],
-    row_stamps: &mut [u32],
-    row_values: &mut [u64],
-    row_weights: &mut [u64],
-)
-    requires { Listable head (fields codes.now stamps.now values.now weights.now) next.now (fields row_codes.old row_stamps.old row_values.old row_weights.old) }
-    ensures { WroteAll head (fields codes.now stamps.now values.now weights.now) next.now (fields row_codes.old row_stamps.old row_values.old row_weights.old) (fields row_codes.new row_stamps.new row_values.new row_weights.new) }
+pub fn write_all(view: &View<'_>, rows: &mut Fields<'_>)
+    requires { Listable view.now.head (seen view.now).fields (seen view.now).nexts (held rows.old) }
+    ensures lists { SameFields rows.old rows.new }
+    ensures wrote { WroteAll view.now.head (seen view.now).fields (seen view.now).nexts (held rows.old) (held rows.new) }
 {
     let any = Rule::stamp(0);
-    let none = any.negated();
-    write_removed(
-        head,
-        codes,
-        stamps,
-        values,
-        weights,
-        next,
-        none,
-        row_codes,
-        row_stamps,
-        row_values,
-        row_weights,
-    );
+    write_removed(view, any.negated(), rows);
 }
 
 // Writes all entries as rows, back to front.
-pub fn write_all_back(
-    head: Head,
-    codes: &[u64],
-    stamps: &[u32],
-    values: &[u64],
-    weights: &[u64],
-    prev: &[u32],
-    row_codes: &mut [u64],
-    row_stamps: &mut [u32],
-    row_values: &mut [u64],
-    row_weights: &mut [u64],
-)
-    requires { ListableBack head (fields codes.now stamps.now values.now weights.now) prev.now (fields row_codes.old row_stamps.old row_values.old row_weights.old) }
-    ensures { WroteBack head (fields codes.now stamps.now values.now weights.now) prev.now (fields row_codes.old row_stamps.old row_values.old row_weights.old) (fields row_codes.new row_stamps.new row_values.new row_weights.new) }
+pub fn write_all_back(view: &View<'_>, rows: &mut Fields<'_>)
+    requires { ListableBack view.now.head (seen view.now).fields (seen view.now).prevs (held rows.old) }
+    ensures lists { SameFields rows.old rows.new }
+    ensures wrote { WroteBack view.now.head (seen view.now).fields (seen view.now).prevs (held rows.old) (held rows.new) }
 {
-    let k = head.live;
-    let none = Slot(Head::NONE);
-    write_oldest(
-        head,
-        codes,
-        stamps,
-        values,
-        weights,
-        prev,
-        k,
-        none,
-        row_codes,
-        row_stamps,
-        row_values,
-        row_weights,
-    );
+    write_oldest(view, view.head.live, None, rows);
 }

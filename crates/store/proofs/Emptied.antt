@@ -24,6 +24,7 @@ use Rattle.table.specs.Sound.{Sound}
 use Rattle.table.specs.Acts.{cleared}
 use Rattle.table.proofs.Kept.{clear_sound, clear_tail}
 use Rattle.head.specs.Fields.{Fields, Reach}
+use Rattle.state.specs.State.{state_of}
 use Rattle.store.specs.State.{entry_in, blank, Describes}
 use Rattle.store.specs.Acts.{Spacious, Emptied}
 use Rattle.store.specs.Caches.{after, capped}
@@ -54,7 +55,7 @@ empty_described k c n r g nx pv st cells kind capacity slots weight top linked l
 
 module _ {h : Head} {f : Fields} {nx pv st cells : List ℕ} {c : Cache} (d : Describes h f nx pv st cells c) where
   -- everything cleared
-  pub clear_described : (r : Head) (g : Fields) (nx' pv' st' cells' : List ℕ) → Emptied h f nx pv st cells r g nx' pv' st' cells'
+  pub clear_described : (r : Head) (g : Fields) (nx' pv' st' cells' : List ℕ) → Emptied (state_of h f nx pv st cells) (state_of r g nx' pv' st' cells')
       → Describes r g nx' pv' st' cells' (after clear c)
   clear_described r g nx' pv' st' cells' p =
       empty_described c.desk.kind c.desk.capacity c.desk.room r g nx' pv' st' cells'
@@ -70,7 +71,7 @@ module _ {h : Head} {f : Fields} {nx pv st cells : List ℕ} {c : Cache} (d : De
       (rw (← d.room) p.table)
 
   -- a described state can be cleared
-  pub described_spacious : Spacious h f nx pv st cells
+  pub described_spacious : Spacious (state_of h f nx pv st cells)
   described_spacious = record {
     some = omega (arith, d.lawful.room.0, d.room);
     reach = d.reach;
@@ -103,14 +104,14 @@ module _ {h : Head} {f : Fields} {nx pv st cells : List ℕ} {c : Cache} (d : De
   })
 
 -- filled lists, cleared links and cells: nothing is held
-pub emptied_ok : (h r : Head) (f g : Fields) (nx pv st cells nx' pv' st' cells' : List ℕ) → Spacious h f nx pv st cells
+pub emptied_ok : (h r : Head) (f g : Fields) (nx pv st cells nx' pv' st' cells' : List ℕ) → Spacious (state_of h f nx pv st cells)
     → g.codes ≡ replicate h.slots 0 ++ drop h.slots f.codes
     → g.stamps ≡ replicate h.slots 0 ++ drop h.slots f.stamps
     → g.values ≡ replicate h.slots 0 ++ drop h.slots f.values
     → g.weights ≡ replicate h.slots 0 ++ drop h.slots f.weights
     → cells' ≡ cleared (2 * h.slots) cells
     → list.Cleared h r nx pv st nx' pv' st'
-    → Emptied h f nx pv st cells (reweighed 0 r) g nx' pv' st' cells'
+    → Emptied (state_of h f nx pv st cells) (state_of (reweighed 0 r) g nx' pv' st' cells')
 emptied_ok h r f g nx pv st cells nx' pv' st' cells' s a b c d t p =
     let n = h.slots in
     let ta = fill_tail n f.codes 0 a s.reach.codes in

@@ -15,6 +15,7 @@ use Rattle.model.proofs.Backs.{only_back, back_of}
 use Rattle.model.proofs.Counting.{sized, of_without}
 use Rattle.list.specs.Order.{last_or}
 use Rattle.head.specs.Fields.{Fields}
+use Rattle.state.specs.State.{state_of}
 use Rattle.store.specs.State.{Describes}
 use Rattle.store.specs.Caches.{after, shed}
 use Rattle.store.specs.Acts.{Tails, Occupied, Dropped, Rich, Shed}
@@ -76,7 +77,7 @@ module _ {h : Head} {f : Fields} {nx pv st cells : List ℕ} {c : Cache} (d : De
       rw (d.links.back, ← order_length d) (back_place c.slots.order (omega (arith, order_length d)))
 
 -- no more can leave than there are slots
-pub rich_small : {h : Head} {f : Fields} {nx pv st cells : List ℕ} {k : ℕ} → Rich h f nx pv st cells k → k ≤ most_slots
+pub rich_small : {h : Head} {f : Fields} {nx pv st cells : List ℕ} {k : ℕ} → Rich (state_of h f nx pv st cells) k → k ≤ most_slots
 rich_small r = omega (arith, r.some, r.described.lawful.roomy, r.described.lawful.room.1)
 
 -- m entries are still to leave from the cache that is described now
@@ -104,7 +105,7 @@ evict_start h f nx pv st cells k = record {
 module _ {h₀ : Head} {f₀ : Fields} {nx₀ pv₀ st₀ cells₀ : List ℕ} {k : ℕ} {h : Head} {f : Fields} {nx pv st cells : List ℕ} {j : ℕ}
     (e : Evicting h₀ f₀ nx₀ pv₀ st₀ cells₀ k h f nx pv st cells j) where
   -- the back of the order is there to remove
-  pub evict_occupied : Rich h₀ f₀ nx₀ pv₀ st₀ cells₀ k → j < k → Occupied h f nx pv st cells h.back.0
+  pub evict_occupied : Rich (state_of h₀ f₀ nx₀ pv₀ st₀ cells₀) k → j < k → Occupied (state_of h f nx pv st cells) h.back.0
   evict_occupied r more =
       let o = e.onward r.cache r.some r.described in
       record {
@@ -114,8 +115,8 @@ module _ {h₀ : Head} {f₀ : Fields} {nx₀ pv₀ st₀ cells₀ : List ℕ} {
         there = back_there o.described (omega (arith, o.some));
       }
 
-  pub evict_step : (r : Head) (g : Fields) (nx' pv' st' cells' : List ℕ) → Rich h₀ f₀ nx₀ pv₀ st₀ cells₀ k → j < k
-      → Dropped h f nx pv st cells r g nx' pv' st' cells' h.back.0
+  pub evict_step : (r : Head) (g : Fields) (nx' pv' st' cells' : List ℕ) → Rich (state_of h₀ f₀ nx₀ pv₀ st₀ cells₀) k → j < k
+      → Dropped (state_of h f nx pv st cells) (state_of r g nx' pv' st' cells') h.back.0
       → Evicting h₀ f₀ nx₀ pv₀ st₀ cells₀ k r g nx' pv' st' cells' (j + 1)
   evict_step r g nx' pv' st' cells' start more q = record {
     most = omega arith;
@@ -140,7 +141,7 @@ module _ {h₀ : Head} {f₀ : Fields} {nx₀ pv₀ st₀ cells₀ : List ℕ} {
           let o = e.onward start.cache start.some start.described in
           o.described.room ∙ sym (ap (λ (z : Cache). z.desk.room) o.same) ∙ sym start.described.room
 
-  pub evict_end : (k ≤ j) → Shed h₀ f₀ nx₀ pv₀ st₀ cells₀ h f nx pv st cells k
+  pub evict_end : (k ≤ j) → Shed (state_of h₀ f₀ nx₀ pv₀ st₀ cells₀) (state_of h f nx pv st cells) k
   evict_end done = record {
     tails = e.tails;
     described = λ c n d.

@@ -22,6 +22,7 @@ use Rattle.compact.specs.Compact.{AllBlank, Resizable, Resized}
 use Rattle.compact.proofs.Laws.{moved_rows, moved_blank}
 use Rattle.table.specs.Links.{Keyed}
 use Rattle.table.specs.Acts.{Rebuilt}
+use Rattle.state.specs.State.{state_of}
 use Rattle.store.specs.State.{entry_in, gather, Describes}
 use Rattle.store.specs.Caches.{capped}
 use Rattle.store.specs.Acts.{Holds, Capped}
@@ -46,7 +47,7 @@ refit n c l some most fits = record {
   light = l.light;
 }
 
-module _ {h : Head} {f : Fields} {nx pv st cells : List ℕ} {n : ℕ} (o : Holds h f nx pv st cells n) where
+module _ {h : Head} {f : Fields} {nx pv st cells : List ℕ} {n : ℕ} (o : Holds (state_of h f nx pv st cells) n) where
   pub holds_resizable : Resizable h nx pv st f n
   holds_resizable = record {
     sound = record { order = o.cache.slots.order; free = o.cache.slots.free; linked = o.described.links };
@@ -94,7 +95,7 @@ module _ {h : Head} {f : Fields} {nx pv st cells : List ℕ} {n : ℕ} (o : Hold
 
     -- a smaller capacity, and the table made anew
     pub capped_shrunk : (cells' : List ℕ) → Rebuilt (home_of h.slots) (2 * h.slots) g.codes (walk nx' r.front.0 r.live) cells cells'
-        → Capped h f nx pv st cells r g nx' pv' st' cells' n
+        → Capped (state_of h f nx pv st cells) (state_of r g nx' pv' st' cells') n
     capped_shrunk cells' b = record {
       tails =
           let q = w.shrunk lt in
@@ -138,7 +139,7 @@ module _ {h : Head} {f : Fields} {nx pv st cells : List ℕ} {n : ℕ} (o : Hold
 
   -- an equal or larger one: nothing moved
   pub capped_stayed : (r : Head) (g : Fields) (nx' pv' st' : List ℕ) → Resized h r nx pv st nx' pv' st' f g n → h.capacity ≤ n
-      → Capped h f nx pv st cells r g nx' pv' st' cells n
+      → Capped (state_of h f nx pv st cells) (state_of r g nx' pv' st' cells) n
   capped_stayed r g nx' pv' st' w ge =
       let s = w.stayed ge in
       rw (s.head, s.nexts, s.prevs, s.stacks, s.fields)

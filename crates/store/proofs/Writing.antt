@@ -23,6 +23,7 @@ use Rattle.table.proofs.Found.{sound_open}
 use Rattle.table.proofs.Placed.{insert_tail}
 use Rattle.crc.proofs.Homes.{home_lt}
 use Rattle.head.specs.Fields.{Fields, Reach}
+use Rattle.state.specs.State.{state_of}
 use Rattle.store.specs.State.{blank, Describes, Changed}
 use Rattle.store.specs.Caches.{after}
 use Rattle.store.specs.Acts.{Writable, Wrote, Tails, Occupied, Dropped, Admits, Added}
@@ -110,7 +111,7 @@ value_described {h} {f} {c = c} d i s v values o e =
     (rw (e, get_or-set_same f.values s v 0 (omega (arith, d.reach.values))))
     (λ u k. rw (e, get_or-set_other f.values s u v 0 k))
 
-module _ {h : Head} {f : Fields} {nx pv st cells : List ℕ} {s : ℕ} (o : Occupied h f nx pv st cells s) where
+module _ {h : Head} {f : Fields} {nx pv st cells : List ℕ} {s : ℕ} (o : Occupied (state_of h f nx pv st cells) s) where
   -- an occupied slot is one of the N
   pub occupied_in : s < h.slots
   occupied_in = slot_in_lem o.described s (only_in o.place s o.cache.slots.order o.there)
@@ -130,7 +131,7 @@ module _ {h : Head} {f : Fields} {nx pv st cells : List ℕ} {s : ℕ} (o : Occu
       → table.TakenOut (home_of h.slots) (2 * h.slots) f.codes s cells cells'
       → Wrote s blank f g
       → list.Removed h r nx pv st nx' pv' st' s
-      → Dropped h f nx pv st cells (reweighed (r.weight - w) r) g nx' pv' st' cells' s
+      → Dropped (state_of h f nx pv st cells) (state_of (reweighed (r.weight - w) r) g nx' pv' st' cells') s
   dropped_ok r g nx' pv' st' cells' w is t q p = record {
     tails = wrote_tails occupied_in o.described.reach q p.next_tail p.prev_tail p.stack_tail t.tail;
     described = λ c i at d.
@@ -156,7 +157,7 @@ module _ {h : Head} {f : Fields} {nx pv st cells : List ℕ} {s : ℕ} (o : Occu
     linked = o.described.links;
   }
 
-module _ {h : Head} {f : Fields} {nx pv st cells : List ℕ} {e : Row} (a : Admits h f nx pv st cells e) where
+module _ {h : Head} {f : Fields} {nx pv st cells : List ℕ} {e : Row} (a : Admits (state_of h f nx pv st cells) e) where
   -- what list and table ask for a new entry
   pub admits_open : list.Spare h nx pv st
   admits_open = record {
@@ -186,7 +187,7 @@ module _ {h : Head} {f : Fields} {nx pv st cells : List ℕ} {e : Row} (a : Admi
 
     pub added_ok : (g : Fields) (cells' : List ℕ) → Wrote t.slot.0 e f g
         → cells' ≡ table.inserted (home_of h.slots) (2 * h.slots) cells g.codes t.slot.0
-        → Added h f nx pv st cells (reweighed (h.weight + e.weight) t.head) g nx' pv' st' cells' e
+        → Added (state_of h f nx pv st cells) (state_of (reweighed (h.weight + e.weight) t.head) g nx' pv' st' cells') e
     added_ok g cells' w same =
         let k = (pushed_slot a.described t nx' pv' st' p).1 in
         let r = a.described.reach in

@@ -2,6 +2,7 @@
 -- Assumes nothing.
 use Rattle.std.specs.Prelude.{ℕ, ◌*◌, ◌≤◌, Bool, ◌&&◌, List, leb, length}
 use Rattle.head.specs.Fields.{Fields, Reach}
+use Rattle.state.specs.State.{State}
 
 -- n slots have room in lists of these lengths: four of fields, two of links, a stack, and cells
 abbrev pub long_enough : ℕ → ℕ → ℕ → ℕ → ℕ → ℕ → ℕ → ℕ → ℕ → Bool
@@ -19,3 +20,7 @@ pub record AllReach (n : ℕ) (f : Fields) (nx pv st cells : List ℕ) : Type 0 
   pub prevs : n ≤ length pv
   pub stacks : n ≤ length st
   pub table : 2 * n ≤ length cells
+
+-- the lists of a state are long enough for n slots
+abbrev pub spacious : ℕ → State → Bool
+spacious n s = all_long n s.fields s.nexts s.prevs s.stack s.cells

@@ -1,65 +1,36 @@
 // The sweep: entries that a rule does not keep leave, front to back.
 #![tactic(auto)]
 
-ghost use Rattle.store.specs.State.{Whole, fields};
+ghost use Rattle.state.specs.State.{lent, SameLists};
+ghost use Rattle.store.specs.State.{Sound};
 ghost use Rattle.store.specs.Acts.{Occupied};
 ghost use Rattle.sweep.specs.Swept.{Judged, Swept};
 
-use head::{Head, Rule, Slot};
+use head::{Rule, Slot};
+use state::State;
 
 // Takes the entry in a slot out, unless it is kept.
-fn judge(
-    head: Head,
-    codes: &mut [u64],
-    stamps: &mut [u32],
-    values: &mut [u64],
-    weights: &mut [u64],
-    next: &mut [u32],
-    prev: &mut [u32],
-    stack: &mut [u32],
-    cells: &mut [u32],
-    slot: Slot,
-    keep: bool,
-) -> Head
-    requires { Occupied head (fields codes.old stamps.old values.old weights.old) next.old prev.old stack.old cells.old slot.0 }
-    ensures { Judged head (fields codes.old stamps.old values.old weights.old) next.old prev.old stack.old cells.old result (fields codes.new stamps.new values.new weights.new) next.new prev.new stack.new cells.new slot.0 keep }
+fn judge(state: &mut State<'_>, slot: Slot, keep: bool)
+    requires { Occupied (lent state.old) slot.0 }
+    ensures lists { SameLists state.old state.new }
+    ensures judged { Judged (lent state.old) (lent state.new) slot.0 keep }
 {
-    if keep {
-        return head;
+    if !keep {
+        store::remove(state, slot);
     }
-    store::remove(
-        head, codes, stamps, values, weights, next, prev, stack, cells, slot,
-    )
 }
 
 // Takes out every entry that the rule does not keep, front to back; their slots go on the stack in that order.
-pub fn sweep(
-    head: Head,
-    codes: &mut [u64],
-    stamps: &mut [u32],
-    values: &mut [u64],
-    weights: &mut [u64],
-    next: &mut [u32],
-    prev: &mut [u32],
-    stack: &mut [u32],
-    cells: &mut [u32],
-    rule: Rule,
-) -> Head
-    requires { Whole head (fields codes.old stamps.old values.old weights.old) next.old prev.old stack.old cells.old }
-    ensures { Swept head (fields codes.old stamps.old values.old weights.old) next.old prev.old stack.old cells.old result (fields codes.new stamps.new values.new weights.new) next.new prev.new stack.new cells.new rule }
+pub fn sweep(state: &mut State<'_>, rule: Rule)
+    requires { Sound (lent state.old) }
+    ensures lists { SameLists state.old state.new }
+    ensures swept { Swept (lent state.old) (lent state.new) rule }
 {
-    let mut h = head;
-    let mut slot = head.front;
-    let mut left = head.live;
-    while 0 < left {
+    let mut slot = state.head.front;
+    for _ in 0..state.head.live {
         let here = slot;
-        slot = list::after(next, here);
-        let row = store::row_at(codes, stamps, values, weights, here);
-        let keep = rules::keeps(rule, row);
-        h = judge(
-            h, codes, stamps, values, weights, next, prev, stack, cells, here, keep,
-        );
-        left -= 1;
+        slot = list::after(state.links.next, here);
+        let row = state.fields.view().read(here.0);
+        judge(state, here, rules::keeps(rule, row));
     }
-    h
 }

@@ -5,14 +5,14 @@ use borrow.Author.Tests.{lt-ltb, le-ltb}
 use Rattle.list.specs.Inspect.{cell_ok}
 use Rattle.list.proofs.cell_ok.Goals as goal
 
-pub returns-then-s-t : goal.returns-then-s-t
+pub returns-then-slot-top : goal.returns-then-slot-top
 unfolding cell_ok
-returns-then-s-t c = c.links_are.ensures ∙ simp (lt-ltb _ _ c.if-k-d.true, lt-ltb _ _ c.if-s-t.true)
+returns-then-slot-top c = c.links_are.ensures ∙ simp (lt-ltb _ _ c.if-place-depth.true, lt-ltb _ _ c.if-slot-top.true)
 
-pub returns-then-k-d : goal.returns-then-k-d
+pub returns-else-slot-top : goal.returns-else-slot-top
 unfolding cell_ok
-returns-then-k-d c = simp (lt-ltb _ _ c.if-k-d.true, le-ltb _ _ c.if-s-t.false)
+returns-else-slot-top c = simp (lt-ltb _ _ c.if-place-depth.true, le-ltb _ _ c.if-slot-top.false)
 
-pub returns : goal.returns
+pub returns-else-place-depth : goal.returns-else-place-depth
 unfolding cell_ok
-returns c = simp (le-ltb _ _ c.if-k-d.false)
+returns-else-place-depth c = simp (le-ltb _ _ c.if-place-depth.false)

@@ -4,10 +4,10 @@ use borrow.Author.Tests.{lt-ltb, le-ltb}
 use Rattle.list.specs.Steps.{choice}
 use Rattle.list.proofs.choose.Goals as goal
 
-pub returns-then-i-n : goal.returns-then-i-n
+pub returns-then-slot-n : goal.returns-then-slot-n
 unfolding choice
-returns-then-i-n c = simp (lt-ltb _ _ c.if-i-n.true)
+returns-then-slot-n c = simp (lt-ltb _ _ c.if-slot-n.true)
 
-pub returns-else-i-n : goal.returns-else-i-n
+pub returns-else-slot-n : goal.returns-else-slot-n
 unfolding choice
-returns-else-i-n c = simp (le-ltb _ _ c.if-i-n.false)
+returns-else-slot-n c = simp (le-ltb _ _ c.if-slot-n.false)

@@ -1,35 +1,13 @@
 -- `list::fill` meets its contract.
 -- Assumes nothing.
-use Prim.Native.Nat.{ℕ, ◌<◌}
-use mathlib.Core.Path.{◌≡◌, ◌∙◌, ap}
-use mathlib.Core.List.{List, ◌++◌}
+use mathlib.Core.Path.{ap, ◌∙◌}
+use mathlib.Core.List.{List}
+use lib.ListN.{set}
 use native.Mathlib.Omega.{arith}
-use lib.ListN.{length, replicate, drop, set, length-set}
-use borrow.Author.Fill.{fill_more}
+use Rattle.list.proofs.Filling.{fill_step}
 use Rattle.list.proofs.fill.Goals as goal
 
-pub overflow_cast-list : goal.overflow_cast-list
-overflow_cast-list c = omega arith
-
-pub bounds-list-i : goal.bounds-list-i
-bounds-list-i c = omega arith
-
-pub overflow_add-i : goal.overflow_add-i
-overflow_add-i c = omega arith
-
-pub loop-i-smaller : goal.loop-i-smaller
-loop-i-smaller c = omega arith
-
-pub loop-i-preserved : goal.loop-i-preserved
-loop-i-preserved c =
-    let a = c.args in
-    let k = c.loop-i.i in
-    let inv = c.loop-i.invariant in
-    let l : k < length a.list.now = omega arith in
-    (omega arith, simp length-set inv.1, ap (λ (t : List ℕ). set t k a.v) inv.2 ∙ fill_more k a.v a.list.now l)
-
-pub returns : goal.returns
-returns c =
-    let a = c.args in
-    let e : c.loop-i.i ≡ a.n = omega arith in
-    c.loop-i.invariant.2 ∙ ap (λ (k : ℕ). replicate k a.v ++ drop k a.list.now) e
+pub loop-x-preserved : goal.loop-x-preserved
+loop-x-preserved g c =
+    ap (λ (t : List g.row.T.Denot). set t c.loop-x.x-index c.args.v) c.loop-x.invariant
+    ∙ fill_step c.loop-x.x-index c.args.v _ (omega arith)

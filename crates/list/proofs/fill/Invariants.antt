@@ -1,13 +1,7 @@
 -- `list::fill` meets its contract.
 -- Assumes nothing.
-use Prim.Native.Nat.{◌≤◌, ◌-◌}
-use mathlib.Core.Path.{◌≡◌}
-use mathlib.Core.List.{◌++◌}
-use lib.ListN.{length, replicate, drop}
+use Rattle.std.proofs.Common.{◌≡◌, ◌++◌, replicate, drop}
 use Rattle.list.proofs.fill.Given as goal
 
-abbrev pub invariant-loop-i : goal.invariant-loop-i
-invariant-loop-i l = (l.i ≤ l.n) × (length l.list ≡ length l.initial.list) × (l.list ≡ replicate l.i l.v ++ drop l.i l.initial.list)
-
-abbrev pub decreases-loop-i : goal.decreases-loop-i
-decreases-loop-i l = l.n - l.i
+abbrev pub invariant-loop-x : goal.invariant-loop-x
+invariant-loop-x g l = l.x-items ≡ replicate l.x-index l.v ++ drop l.x-index l.initial.x-items

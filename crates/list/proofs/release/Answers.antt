@@ -3,5 +3,5 @@
 use Rattle.list.proofs.Stacking.{released}
 use Rattle.list.proofs.release.Goals as goal
 
-pub returns : goal.returns
-returns c = released _ _ _ _ _ _ _ _ c.put.ensures c.put-2.ensures c.put-3.ensures
+pub returns-clause-released : goal.returns-clause-released
+returns-clause-released c = released _ _ _ _ _ _ _ _ c.put.ensures c.put-2.ensures c.put-3.ensures

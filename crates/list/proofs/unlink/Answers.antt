@@ -1,7 +1,8 @@
 -- `list::unlink` meets its contract.
 -- Assumes nothing.
+use mathlib.Core.Path.{refl}
 use Rattle.list.proofs.Unlinking.{unlinked}
 use Rattle.list.proofs.unlink.Goals as goal
 
-pub returns : goal.returns
-returns c = unlinked _ _ _ _ _ _ _ _ _ _ c.ahead-p.ensures c.after-q.ensures c.put.ensures c.put-2.ensures c.choose-front.ensures c.choose-back.ensures
+pub returns-clause-unlinked : goal.returns-clause-unlinked
+returns-clause-unlinked c = unlinked _ _ _ _ _ _ _ _ _ _ refl refl c.put.ensures c.put-2.ensures c.choose.ensures c.choose-2.ensures
