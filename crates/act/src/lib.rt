@@ -5,7 +5,7 @@ ghost use Rattle.state.specs.State.{held, lent, seen, SameFields, SameLists};
 ghost use Rattle.plan.specs.declared.Plan.TheVariants.{Place, Replace, Fit};
 ghost use Rattle.act.specs.Acted.{Prepared, Acted, Offered, HandedOut};
 
-use head::{Row, Slot};
+use head::{Head, Row, Slot};
 use plan::Plan;
 use state::{Fields, State, View};
 
@@ -72,6 +72,7 @@ pub fn hand_out(view: &View<'_>, plan: Plan, rows: &mut Fields<'_>)
     ensures lists { SameFields rows.old rows.new }
     ensures handed { HandedOut plan view.now.head (seen view.now).fields (seen view.now).nexts (seen view.now).prevs (held rows.old) (held rows.new) }
 {
+    let none = Slot(Head::NONE);
     match plan {
         Plan::Stay
         | Plan::Raise(_)
@@ -81,9 +82,9 @@ pub fn hand_out(view: &View<'_>, plan: Plan, rows: &mut Fields<'_>)
         | Plan::Clear => {}
         Plan::List => rows::write_all(view, rows),
         Plan::ListBack => rows::write_all_back(view, rows),
-        Plan::Place { evict, .. } => rows::write_oldest(view, evict, None, rows),
-        Plan::Replace { slot, evict, .. } => rows::write_oldest(view, evict, Some(slot), rows),
-        Plan::Fit { evict, .. } => rows::write_oldest(view, evict, None, rows),
+        Plan::Place { evict, .. } => rows::write_oldest(view, evict, none, rows),
+        Plan::Replace { slot, evict, .. } => rows::write_oldest(view, evict, slot, rows),
+        Plan::Fit { evict, .. } => rows::write_oldest(view, evict, none, rows),
         Plan::Sweep(rule) => rows::write_removed(view, rule, rows),
     }
 }

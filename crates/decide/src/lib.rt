@@ -395,10 +395,10 @@ fn put_with_weight(view: &View<'_>, search: Search, room: usize, row: Row) -> De
     // What entries may take beside the new one: eviction goes on while live + weight + new weight >= C.
     let budget = head.capacity - 1 - row.weight;
     let Search::Found { slot, .. } = search else {
-        let k = rows::leaving(view, budget, None);
+        let k = rows::leaving(view, budget, Slot(Head::NONE));
         return admit(head, room, k, row, Answer::New { rows: k });
     };
-    let k = rows::leaving(view, budget, Some(slot));
+    let k = rows::leaving(view, budget, slot);
     let old = view.fields.values[slot.0 as usize];
     within(
         room,
@@ -449,7 +449,7 @@ fn resize(view: &View<'_>, room: usize, capacity: u64) -> Decision
     if !capacity_ok(capacity) {
         return Decision::refuse(Refusal::NotUnderstood);
     }
-    let k = rows::leaving(view, capacity, None);
+    let k = rows::leaving(view, capacity, Slot(Head::NONE));
     within(
         room,
         k,

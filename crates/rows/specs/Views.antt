@@ -28,11 +28,6 @@ pub record Weighted (h : Head) (ws pv : List ℕ) (c : Cache) : Type 0 where
   pub values : List ℕ
   pub backward : Backward h (fields codes stamps values ws) pv c
 
--- a slot to skip as a number, the none mark where there is none
-abbrev pub mark_of : Option Slot → ℕ
-mark_of None = none_mark
-mark_of (Some s) = s.0
-
 -- what is skipped: a slot, or none
 abbrev pub skipped : ℕ → List ℕ
 skipped s = cond (eqb s none_mark) [] (s ∷ [])

@@ -5,39 +5,41 @@ ghost use Rattle.std.specs.Prelude.{◌≡◌, ◌+◌, ◌-◌, ◌<◌, not, l
 ghost use Rattle.model.specs.Desk.{keeps as keeping};
 ghost use Rattle.model.specs.Codes.{one};
 ghost use Rattle.state.specs.State.{held, seen, SameFields};
-ghost use Rattle.rows.specs.Views.{mark_of, past_at, cost_at, Countable};
+ghost use Rattle.rows.specs.Views.{past_at, cost_at, Countable};
 ghost use Rattle.rows.specs.Answers.{Budgeted, Leaves, Read, Removes, Aged, WroteOldest, Offered, Handed, Sweepable, WroteRemoved, Listable, WroteAll, ListableBack, WroteBack};
 
 use head::{Head, Row, Rule, Slot};
 use state::{Fields, View};
 
 // The slot itself, or the one ahead of it where it is the one to skip.
-fn past(prev: &[u32], slot: Slot, skip: Option<Slot>) -> Slot
+fn past(prev: &[u32], slot: Slot, skip: Slot) -> Slot
     requires { slot.0 < length prev.now }
-    ensures { result.0 ≡ past_at prev.now (mark_of skip) slot.0 }
+    ensures { result.0 ≡ past_at prev.now skip.0 slot.0 }
 {
-    match skip {
-        Some(gone) if gone.0 == slot.0 => list::ahead(prev, slot),
-        _ => slot,
+    if slot.0 == skip.0 {
+        list::ahead(prev, slot)
+    } else {
+        slot
     }
 }
 
 // What the entries take of the capacity together, without the one in the slot to skip.
-fn taken_up(head: Head, weights: &[u64], skip: Option<Slot>) -> u64
-    requires { Countable head weights.now (mark_of skip) }
-    ensures { result ≡ head.live + head.weight - cost_at weights.now (mark_of skip) }
+fn taken_up(head: Head, weights: &[u64], skip: Slot) -> u64
+    requires { Countable head weights.now skip.0 }
+    ensures { result ≡ head.live + head.weight - cost_at weights.now skip.0 }
 {
     let all = (head.live as u64) + head.weight;
-    match skip {
-        Some(gone) => all - (weights[gone.0 as usize] + 1),
-        None => all,
+    if skip.0 == Head::NONE {
+        all
+    } else {
+        all - (weights[skip.0 as usize] + 1)
     }
 }
 
-// How many must leave from the back until what stays takes at most the budget. The entry in the slot to skip counts as gone.
-pub fn leaving(view: &View<'_>, budget: u64, skip: Option<Slot>) -> u32
-    requires { Budgeted view.now.head (seen view.now).fields.weights (seen view.now).prevs (mark_of skip) }
-    ensures { Leaves view.now.head (seen view.now).fields.weights (seen view.now).prevs budget (mark_of skip) result }
+// How many must leave from the back until what stays takes at most the budget. The entry in the slot to skip counts as gone; NONE skips no slot.
+pub fn leaving(view: &View<'_>, budget: u64, skip: Slot) -> u32
+    requires { Budgeted view.now.head (seen view.now).fields.weights (seen view.now).prevs skip.0 }
+    ensures { Leaves view.now.head (seen view.now).fields.weights (seen view.now).prevs budget skip.0 result }
 {
     let weights = view.fields.weights;
     let prev = view.links.prev;
@@ -69,11 +71,11 @@ pub fn removed_by(view: &View<'_>, rule: Rule) -> u32
     n
 }
 
-// Writes the k oldest entries as rows, oldest first. The entry in the slot to skip counts as gone.
-pub fn write_oldest(view: &View<'_>, k: u32, skip: Option<Slot>, rows: &mut Fields<'_>)
-    requires { Aged view.now.head (seen view.now).fields (seen view.now).prevs k (mark_of skip) (held rows.old) }
+// Writes the k oldest entries as rows, oldest first. The entry in the slot to skip counts as gone; NONE skips no slot.
+pub fn write_oldest(view: &View<'_>, k: u32, skip: Slot, rows: &mut Fields<'_>)
+    requires { Aged view.now.head (seen view.now).fields (seen view.now).prevs k skip.0 (held rows.old) }
     ensures lists { SameFields rows.old rows.new }
-    ensures wrote { WroteOldest view.now.head (seen view.now).fields (seen view.now).prevs k (mark_of skip) (held rows.old) (held rows.new) }
+    ensures wrote { WroteOldest view.now.head (seen view.now).fields (seen view.now).prevs k skip.0 (held rows.old) (held rows.new) }
 {
     let prev = view.links.prev;
     let mut oldest = view.head.back;
@@ -128,5 +130,5 @@ pub fn write_all_back(view: &View<'_>, rows: &mut Fields<'_>)
     ensures lists { SameFields rows.old rows.new }
     ensures wrote { WroteBack view.now.head (seen view.now).fields (seen view.now).prevs (held rows.old) (held rows.new) }
 {
-    write_oldest(view, view.head.live, None, rows);
+    write_oldest(view, view.head.live, Slot(Head::NONE), rows);
 }

@@ -16,18 +16,15 @@ past-here-requires c = drop_inside c.loop-left.invariant (budget_stocked c.requi
 
 -- what the body reads at the slot that it came to
 ready : (c : After-past-here)
-    → Ready c.args.weights.now c.args.prev.now c.loop-left.left c.loop-left.k c.past-here.result.0
+    → Ready c.args.view.now.fields.weights.now c.args.view.now.links.prev.now c.loop-left.left c.loop-left.k c.past-here.result.0
 ready c =
     drop_ready c.loop-left.invariant (budget_stocked c.requires c.taken_up-left.ensures) _ c.loop-left-test.true c.past-here.ensures
 
-pub overflow_cast-i : goal.overflow_cast-i
-overflow_cast-i c = omega arith
+pub offset_bounds-weights-here : goal.offset_bounds-weights-here
+offset_bounds-weights-here c = omega arith
 
-pub offset_bounds-weights-i : goal.offset_bounds-weights-i
-offset_bounds-weights-i c = omega arith
-
-pub bounds-weights-i : goal.bounds-weights-i
-bounds-weights-i c = (ready (goal.at.bounds-weights-i c).After-past-here).weighs
+pub bounds-weights-here : goal.bounds-weights-here
+bounds-weights-here c = (ready (goal.at.bounds-weights-here c).After-past-here).weighs
 
 pub overflow_add-left : goal.overflow_add-left
 overflow_add-left c = let r = ready (goal.at.overflow_add-left c).After-past-here in omega (arith, r.cost, r.small)

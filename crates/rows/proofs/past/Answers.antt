@@ -6,5 +6,5 @@ use Rattle.rows.proofs.past.Goals as goal
 pub returns-then-slot-skip : goal.returns-then-slot-skip
 returns-then-slot-skip c = simp (eq-eqb _ _ c.if-slot-skip.true) c.ahead.ensures
 
-pub returns : goal.returns
-returns c = simp (ne_eqb _ _ c.if-slot-skip.false)
+pub returns-else-slot-skip : goal.returns-else-slot-skip
+returns-else-slot-skip c = simp (ne_eqb _ _ c.if-slot-skip.false)

@@ -1,11 +1,11 @@
--- `rows::removed_by` meets its contract: the counting loop of `proofs/Sweeping.antt`. The measure is what is left to ask.
+-- `rows::removed_by` meets its contract: the counting loop of `proofs/Sweeping.antt`.
 -- Assumes nothing.
-use Rattle.store.specs.State.{fields}
+use Prim.Native.Nat.{◌-◌}
+use Rattle.state.specs.State.{seen}
 use Rattle.rows.proofs.Sweeping.{Counting}
 use Rattle.rows.proofs.removed_by.Given as goal
 
-abbrev pub invariant-loop-left : goal.invariant-loop-left
-invariant-loop-left l = Counting (fields l.codes l.stamps l.values l.weights) l.next l.rule l.initial.slot.0 l.initial.left l.slot.0 l.left l.n
-
-abbrev pub decreases-loop-left : goal.decreases-loop-left
-decreases-loop-left l = l.left
+abbrev pub invariant-loop : goal.invariant-loop
+invariant-loop l =
+    let s = seen l.view in
+    Counting s.fields s.nexts l.rule s.head.front.0 s.head.live l.slot.0 (s.head.live - l.counter) l.n

@@ -7,8 +7,8 @@ use Rattle.rows.proofs.taken_up.Goals as goal
 pub returns-then-skip-eq-NONE : goal.returns-then-skip-eq-NONE
 returns-then-skip-eq-NONE c = simp (eq-eqb _ _ c.if-skip-eq-NONE.true) (omega arith)
 
-pub bounds-weights-i : goal.bounds-weights-i
-bounds-weights-i c = omega (arith, c.requires.inside c.if-skip-eq-NONE.false)
+pub bounds-weights-skip : goal.bounds-weights-skip
+bounds-weights-skip c = omega (arith, c.requires.inside c.if-skip-eq-NONE.false)
 
 pub overflow_add-result : goal.overflow_add-result
 overflow_add-result c = omega (arith, rw (ne_eqb _ _ c.if-skip-eq-NONE.false) at c.requires.less, c.requires.small)
@@ -16,5 +16,5 @@ overflow_add-result c = omega (arith, rw (ne_eqb _ _ c.if-skip-eq-NONE.false) at
 pub overflow_sub-result : goal.overflow_sub-result
 overflow_sub-result c = omega (arith, rw (ne_eqb _ _ c.if-skip-eq-NONE.false) at c.requires.less)
 
-pub returns : goal.returns
-returns c = simp (ne_eqb _ _ c.if-skip-eq-NONE.false) (omega arith)
+pub returns-else-skip-eq-NONE : goal.returns-else-skip-eq-NONE
+returns-else-skip-eq-NONE c = simp (ne_eqb _ _ c.if-skip-eq-NONE.false) (omega arith)

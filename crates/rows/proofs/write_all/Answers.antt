@@ -4,7 +4,7 @@ use Rattle.rows.proofs.Listing.{no_stamp_lem, all_swept, all_wrote}
 use Rattle.rows.proofs.write_all.Goals as goal
 
 pub write_removed-requires : goal.write_removed-requires
-write_removed-requires c = all_swept _ (no_stamp_lem _ _ c.stamp-any.ensures c.negated-none.ensures) c.requires
+write_removed-requires c = all_swept _ (no_stamp_lem _ _ c.stamp-any.ensures c.negated.ensures) c.requires
 
-pub returns : goal.returns
-returns c = all_wrote _ (no_stamp_lem _ _ c.stamp-any.ensures c.negated-none.ensures) c.write_removed.ensures
+pub returns-clause-wrote : goal.returns-clause-wrote
+returns-clause-wrote c = all_wrote _ (no_stamp_lem _ _ c.stamp-any.ensures c.negated.ensures) c.write_removed.ensures.wrote

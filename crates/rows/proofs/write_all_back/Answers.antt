@@ -6,5 +6,5 @@ use Rattle.rows.proofs.write_all_back.Goals as goal
 pub write_oldest-requires : goal.write_oldest-requires
 write_oldest-requires c = back_aged c.requires
 
-pub returns : goal.returns
-returns c = back_wrote c.write_oldest.ensures
+pub returns-clause-wrote : goal.returns-clause-wrote
+returns-clause-wrote c = back_wrote c.write_oldest.ensures.wrote

@@ -1,11 +1,12 @@
--- `rows::write_removed` meets its contract: the writing loop of `proofs/Sweeping.antt`. The measure is what is left to ask.
+-- `rows::write_removed` meets its contract: the writing loop of `proofs/Sweeping.antt`.
 -- Assumes nothing.
-use Rattle.store.specs.State.{fields}
+use Prim.Native.Nat.{◌-◌}
+use Rattle.state.specs.State.{held, seen, SameFields}
 use Rattle.rows.proofs.Sweeping.{Sweeping}
 use Rattle.rows.proofs.write_removed.Given as goal
 
-abbrev pub invariant-loop-left : goal.invariant-loop-left
-invariant-loop-left l = Sweeping (fields l.codes l.stamps l.values l.weights) l.next l.rule (fields l.initial.row_codes l.initial.row_stamps l.initial.row_values l.initial.row_weights) (fields l.row_codes l.row_stamps l.row_values l.row_weights) l.initial.slot.0 l.initial.left l.slot.0 l.left l.n
-
-abbrev pub decreases-loop-left : goal.decreases-loop-left
-decreases-loop-left l = l.left
+abbrev pub invariant-loop : goal.invariant-loop
+invariant-loop l =
+    let s = seen l.view in
+    SameFields l.initial.rows l.rows
+    × Sweeping s.fields s.nexts l.rule (held l.initial.rows) (held l.rows) s.head.front.0 s.head.live l.slot.0 (s.head.live - l.counter) l.n

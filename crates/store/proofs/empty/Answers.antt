@@ -3,25 +3,25 @@
 use Rattle.store.proofs.Emptied.{emptied_ok}
 use Rattle.store.proofs.empty.Goals as goal
 
-pub zero-requires : goal.zero-requires
-zero-requires c = c.requires.reach.codes
-
 pub fill-requires : goal.fill-requires
-fill-requires c = c.requires.reach.stamps
+fill-requires c = c.requires.reach.codes
 
-pub zero-requires-2 : goal.zero-requires-2
-zero-requires-2 c = c.requires.reach.values
+pub fill-requires-2 : goal.fill-requires-2
+fill-requires-2 c = c.requires.reach.stamps
 
-pub zero-requires-3 : goal.zero-requires-3
-zero-requires-3 c = c.requires.reach.weights
+pub fill-requires-3 : goal.fill-requires-3
+fill-requires-3 c = c.requires.reach.values
+
+pub fill-requires-4 : goal.fill-requires-4
+fill-requires-4 c = c.requires.reach.weights
 
 pub clear-requires : goal.clear-requires
 clear-requires c = c.requires.table
 
-pub clear-r-requires : goal.clear-r-requires
-clear-r-requires c = c.requires.links
+pub clear-left-requires : goal.clear-left-requires
+clear-left-requires c = c.requires.links
 
-pub returns : goal.returns
-returns c =
-    rw c.with_weight.ensures
-    (emptied_ok _ _ _ _ _ _ _ _ _ _ _ _ c.requires c.zero.ensures c.fill.ensures c.zero-2.ensures c.zero-3.ensures c.clear.ensures c.clear-r.ensures)
+pub returns-clause-emptied : goal.returns-clause-emptied
+returns-clause-emptied c =
+    rw c.with_weight-state.ensures
+    (emptied_ok _ _ _ _ _ _ _ _ _ _ _ _ c.requires c.fill.ensures c.fill-2.ensures c.fill-3.ensures c.fill-4.ensures c.clear.ensures c.clear-left.ensures.cleared)

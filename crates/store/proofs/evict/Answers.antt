@@ -1,23 +1,22 @@
--- `store::evict` meets its contract: what has left so far, with what is still to leave, is what was to leave. The measure is what is left to do.
+-- `store::evict` meets its contract: what has left so far, with what is still to leave, is what was to leave.
 -- Assumes nothing.
 use native.Mathlib.Omega.{arith}
-use Rattle.store.proofs.Evicting.{rich_small, evict_start, evict_occupied, evict_step, evict_end}
+use Rattle.state.proofs.Same.{lists_stay, lists_then}
+use Rattle.store.proofs.Evicting.{evict_start, evict_occupied, evict_step, evict_end}
 use Rattle.store.proofs.evict.Goals as goal
 
-pub loop-j-init : goal.loop-j-init
-loop-j-init c = evict_start _ _ _ _ _ _ _
+pub loop-init : goal.loop-init
+loop-init c = (lists_stay, evict_start _ _ _ _ _ _ _)
 
-pub remove-h-requires : goal.remove-h-requires
-remove-h-requires c = evict_occupied c.loop-j.invariant c.requires c.loop-j-test.true
+pub remove-requires : goal.remove-requires
+remove-requires c = evict_occupied c.loop.invariant.1 c.requires (omega arith)
 
-pub overflow_add-j : goal.overflow_add-j
-overflow_add-j c = omega (arith, c.loop-j-test.true, rich_small c.requires)
+pub loop-preserved : goal.loop-preserved
+loop-preserved c =
+    (lists_then c.loop.invariant.0 c.remove.ensures.lists, evict_step c.loop.invariant.1 _ _ _ _ _ _ c.requires (omega arith) c.remove.ensures.dropped)
 
-pub loop-j-smaller : goal.loop-j-smaller
-loop-j-smaller c = omega arith
+pub returns-clause-lists : goal.returns-clause-lists
+returns-clause-lists c = c.loop.invariant.0
 
-pub loop-j-preserved : goal.loop-j-preserved
-loop-j-preserved c = evict_step c.loop-j.invariant _ _ _ _ _ _ c.requires c.loop-j-test.true c.remove-h.ensures
-
-pub returns : goal.returns
-returns c = evict_end c.loop-j.invariant c.loop-j-test.false
+pub returns-clause-shed : goal.returns-clause-shed
+returns-clause-shed c = evict_end c.loop.invariant.1 (omega arith)

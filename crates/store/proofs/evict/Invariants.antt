@@ -1,12 +1,12 @@
--- `store::evict` meets its contract: what has left so far, with what is still to leave, is what was to leave. The measure is what is left to do.
+-- `store::evict` meets its contract: what has left so far, with what is still to leave, is what was to leave.
 -- Assumes nothing.
-use Prim.Native.Nat.{◌-◌}
-use Rattle.store.specs.State.{fields}
+use Rattle.state.specs.State.{lent, SameLists}
 use Rattle.store.proofs.Evicting.{Evicting}
 use Rattle.store.proofs.evict.Given as goal
 
-abbrev pub invariant-loop-j : goal.invariant-loop-j
-invariant-loop-j l = Evicting l.initial.h (fields l.initial.codes l.initial.stamps l.initial.values l.initial.weights) l.initial.next l.initial.prev l.initial.stack l.initial.cells l.k l.h (fields l.codes l.stamps l.values l.weights) l.next l.prev l.stack l.cells l.j
-
-abbrev pub decreases-loop-j : goal.decreases-loop-j
-decreases-loop-j l = l.k - l.j
+abbrev pub invariant-loop : goal.invariant-loop
+invariant-loop l =
+    let s = lent l.initial.state in
+    let t = lent l.state in
+    SameLists l.initial.state l.state
+    × Evicting s.head s.fields s.nexts s.prevs s.stack s.cells l.k t.head t.fields t.nexts t.prevs t.stack t.cells l.counter
