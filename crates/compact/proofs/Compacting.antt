@@ -4,7 +4,7 @@ use Prim.Native.Nat.{ℕ, ◌+◌, ◌-◌, ◌≤◌}
 use native.Mathlib.Omega.{arith}
 use mathlib.Core.Path.{◌≡◌, refl, sym, ap, ◌∙◌, subst}
 use mathlib.Core.List.{List, [], ◌++◌}
-use lib.ListN.{length, get_or, take, drop, length-append, length-drop, get_or-append}
+use lib.ListN.{length, take, drop, length-append, length-drop}
 use lib.Seq.{take_at, drop-append-add, drop-drop}
 use Rattle.head.specs.declared.Head.{Head}
 use Rattle.head.specs.Walks.{walk}
@@ -90,16 +90,14 @@ module _ (h : Head) (nx pv st : List ℕ) (g : Fields) (t : ℕ) (p : Compactabl
         ap (drop h.slots) a.cells ∙ ap (λ (n : ℕ). drop n (row ++ drop (length order) st)) e
         ∙ drop-append-add row (drop (length order) st) m ∙ drop-drop m (length order) st ∙ ap (λ (n : ℕ). drop n st) k
 
-    exchangeable : (l : List ℕ) → h.slots ≤ length l → Exchangeable h.live st1 l
-    exchangeable l e = record {
-      few = omega (arith, compactable_walk.few);
-      row = omega (arith, stack_long, compactable_walk.few, compactable_walk.stacks);
-      each = λ j k. let b : get_or st1 j 0 ≡ get_or row j 0 =
-          ap (λ (m : List ℕ). get_or m j 0) a.cells ∙ get_or-append row (drop (length order) st) 0 j (omega (arith, row_long)) in
-          omega (arith, partners_low (length order) 0 h.slots order refl compactable_walk.fit j (omega (arith, long)));
-    }
+    exchangeable : (l : List ℕ) → h.slots ≤ length l → Exchangeable (take h.live st1) l
+    exchangeable l e =
+        rw row_is (record {
+          few = omega (arith, row_long, compactable_walk.few);
+          each = λ j k. omega (arith, partners_low (length order) 0 h.slots order refl compactable_walk.fit j (omega (arith, row_long, long)));
+        })
 
-    pub reorder_exchangeable : AllExchangeable h.live st1 g
+    pub reorder_exchangeable : AllExchangeable (take h.live st1) g
     reorder_exchangeable = record {
       codes = exchangeable g.codes p.reach.codes;
       stamps = exchangeable g.stamps p.reach.stamps;

@@ -6,43 +6,46 @@ use native.Mathlib.Nat.{zero-add}
 use mathlib.Core.Path.{◌≡◌, refl, sym, ap, ◌∙◌, subst}
 use mathlib.Core.Logic.{⊎_elim}
 use mathlib.Core.List.{List, [], ◌∷◌}
-use lib.ListN.{length, get_or, set, length-set}
+use lib.ListN.{length, get_or, set, drop, length-set}
 use lib.Seq.{get_or-set_same, get_or-set_other, drop-set-lt}
+use Rattle.std.specs.List.{swap}
+use Rattle.std.proofs.lemmas.List.Edits.{swap_is, length-swap}
 use Rattle.model.specs.Codes.{count}
 use Rattle.list.specs.Order.{ifeq}
 use Rattle.head.specs.Tails.{Tail}
 use Rattle.list.proofs.Marks.{same?, ifeq_same, ifeq_other, miss}
-use Rattle.compact.specs.Plan.{renamed, partners, exchanged, exchanges, Fit}
+use Rattle.compact.specs.Plan.{renamed, partners, exchanges, Fit}
 use Rattle.compact.specs.Compact.{Carried}
 use Rattle.compact.proofs.Renaming.{length_renamed, get_or_renamed, renamed_self, count_get_or, count_new, count_else, first_fresh, first_high, first_low, fit_renamed}
 
 -- ---- one exchange
 
-pub exchanged_tail : (n a b : ℕ) (l : List ℕ) → a < n → b < n → Tail n l (exchanged a b l)
-exchanged_tail n a b l ha hb = record {
-  size = simp length-set;
-  tail = drop-set-lt n (set l a (get_or l b 0)) b (get_or l a 0) hb ∙ drop-set-lt n l a (get_or l b 0) ha;
-}
-
-pub exchanged_length : (a b : ℕ) (l : List ℕ) → length (exchanged a b l) ≡ length l
-exchanged_length a b l = simp length-set
-
 module _ (a b : ℕ) (l : List ℕ) (ha : a < length l) (hb : b < length l) where
-  pub at_second : get_or (exchanged a b l) b 0 ≡ get_or l a 0
-  at_second = get_or-set_same (set l a (get_or l b 0)) b (get_or l a 0) 0 (simp length-set hb)
+  as_sets : swap l a b ≡ set (set l a (get_or l b 0)) b (get_or l a 0)
+  as_sets = sym (swap_is l a b 0 ha hb)
 
-  pub at_first : get_or (exchanged a b l) a 0 ≡ get_or l b 0
+  pub swap_tail : (n : ℕ) → a < n → b < n → Tail n l (swap l a b)
+  swap_tail n na nb = record {
+    size = length-swap l a b;
+    tail = ap (drop n) as_sets ∙ drop-set-lt n (set l a (get_or l b 0)) b (get_or l a 0) nb ∙ drop-set-lt n l a (get_or l b 0) na;
+  }
+
+  pub at_second : get_or (swap l a b) b 0 ≡ get_or l a 0
+  at_second = rw as_sets (get_or-set_same (set l a (get_or l b 0)) b (get_or l a 0) 0 (simp length-set hb))
+
+  pub at_first : get_or (swap l a b) a 0 ≡ get_or l b 0
   at_first =
       ⊎_elim
-      (λ e. ap (λ (x : ℕ). get_or (exchanged a b l) x 0) e ∙ at_second ∙ ap (λ (x : ℕ). get_or l x 0) e)
-      (λ d. get_or-set_other (set l a (get_or l b 0)) b a (get_or l a 0) 0 d ∙ get_or-set_same l a (get_or l b 0) 0 ha)
+      (λ e. ap (λ (x : ℕ). get_or (swap l a b) x 0) e ∙ at_second ∙ ap (λ (x : ℕ). get_or l x 0) e)
+      (λ d. rw as_sets (get_or-set_other (set l a (get_or l b 0)) b a (get_or l a 0) 0 d ∙ get_or-set_same l a (get_or l b 0) 0 ha))
       (same? a b)
 
-  pub at_else : (u : ℕ) → (u ≡ a → ⊥) → (u ≡ b → ⊥) → get_or (exchanged a b l) u 0 ≡ get_or l u 0
-  at_else u p q = get_or-set_other (set l a (get_or l b 0)) b u (get_or l a 0) 0 q ∙ get_or-set_other l a u (get_or l b 0) 0 p
+  pub at_else : (u : ℕ) → (u ≡ a → ⊥) → (u ≡ b → ⊥) → get_or (swap l a b) u 0 ≡ get_or l u 0
+  at_else u p q =
+      rw as_sets (get_or-set_other (set l a (get_or l b 0)) b u (get_or l a 0) 0 q ∙ get_or-set_other l a u (get_or l b 0) 0 p)
 
   -- what stood in a slot stands in the one that took its part
-  pub at_renamed : (x : ℕ) → (x ≡ b → ⊥) → get_or (exchanged a b l) (ifeq x a b x) 0 ≡ get_or l x 0
+  pub at_renamed : (x : ℕ) → (x ≡ b → ⊥) → get_or (swap l a b) (ifeq x a b x) 0 ≡ get_or l x 0
   at_renamed x d =
       ⊎_elim
       (λ e. rw (ifeq_same x a b x e, e) at_second)
@@ -67,7 +70,7 @@ brought_none i n l = record {
 }
 
 module _ (i n s : ℕ) (r l m : List ℕ) (f : Fit i n (s ∷ r)) (long : n ≤ length l)
-    (b : Brought (suc i) n (renamed i s r) (exchanged i s l) m) where
+    (b : Brought (suc i) n (renamed i s r) (swap l i s) m) where
   hs : s < n
   hs = first_low i n s r f
 
@@ -87,7 +90,7 @@ module _ (i n s : ℕ) (r l m : List ℕ) (f : Fit i n (s ∷ r)) (long : n ≤ 
 
   -- a slot that is blank and not i stays so, but s, which gets what i had
   still_blank : ((u : ℕ) → i ≤ u → u < n → count u (s ∷ r) ≡ 0 → get_or l u 0 ≡ 0)
-      → (u : ℕ) → suc i ≤ u → u < n → count u (renamed i s r) ≡ 0 → get_or (exchanged i s l) u 0 ≡ 0
+      → (u : ℕ) → suc i ≤ u → u < n → count u (renamed i s r) ≡ 0 → get_or (swap l i s) u 0 ≡ 0
   still_blank z u h k c =
       ⊎_elim
       (λ e. let d : i ≡ s → ⊥ = λ q. omega arith in
@@ -113,8 +116,8 @@ module _ (i n s : ℕ) (r l m : List ℕ) (f : Fit i n (s ∷ r)) (long : n ≤ 
     places = more_places;
     blanks = λ z u h k. b.blanks (still_blank z) u (omega (arith, length_renamed i s r)) k;
     tail = record {
-      size = b.tail.size ∙ exchanged_length i s l;
-      tail = b.tail.tail ∙ (exchanged_tail n i s l hi hs).tail;
+      size = b.tail.size ∙ length-swap l i s;
+      tail = b.tail.tail ∙ (swap_tail i s l (omega (arith, hi)) (omega (arith, hs)) n hi hs).tail;
     };
   }
 
@@ -125,8 +128,8 @@ brought zero i n (s ∷ r) l e f h = absurd (omega arith)
 brought (suc k) i n [] l e f h = absurd (omega arith)
 brought (suc k) i n (s ∷ r) l e f h =
     brought_more i n s r l _ f h
-    (brought k (suc i) n (renamed i s r) (exchanged i s l) (omega (arith, length_renamed i s r)) (fit_renamed i n s r f)
-    (omega (arith, exchanged_length i s l)))
+    (brought k (suc i) n (renamed i s r) (swap l i s) (omega (arith, length_renamed i s r)) (fit_renamed i n s r f)
+    (omega (arith, length-swap l i s)))
 
 pub carried : (n : ℕ) (order l : List ℕ) → Fit 0 n order → n ≤ length l
     → Carried n order l (exchanges 0 (partners (length order) 0 order) l)

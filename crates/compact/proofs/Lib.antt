@@ -2,7 +2,6 @@
 -- Assumes nothing.
 pub mod Renaming
 pub mod Exchanging
-pub mod Rows
 pub mod Numbering
 pub mod Planning
 pub mod Writing

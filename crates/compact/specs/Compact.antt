@@ -92,18 +92,17 @@ pub record Planned (n : ℕ) (order pv st pv' st' : List ℕ) : Type 0 where
   pub cells : st' ≡ partners (length order) 0 order ++ drop (length order) st
   pub tail : Tail n pv pv'
 
--- the first `live` numbers of the list can be exchanged so
-pub record Exchangeable (live : ℕ) (ps l : List ℕ) : Type 0 where
-  pub few : live ≤ length l
-  pub row : live ≤ length ps
-  pub each : (j : ℕ) → j < live → get_or ps j 0 < length l
+-- the list's first elements can be exchanged in this row
+pub record Exchangeable {A : Type 0} (ss : List ℕ) (l : List A) : Type 0 where
+  pub few : length ss ≤ length l
+  pub each : (j : ℕ) → j < length ss → get_or ss j 0 < length l
 
 -- so it is in all four lists
-pub record AllExchangeable (live : ℕ) (ps : List ℕ) (f : Fields) : Type 0 where
-  pub codes : Exchangeable live ps f.codes
-  pub stamps : Exchangeable live ps f.stamps
-  pub values : Exchangeable live ps f.values
-  pub weights : Exchangeable live ps f.weights
+pub record AllExchangeable (ss : List ℕ) (f : Fields) : Type 0 where
+  pub codes : Exchangeable ss f.codes
+  pub stamps : Exchangeable ss f.stamps
+  pub values : Exchangeable ss f.values
+  pub weights : Exchangeable ss f.weights
 
 -- links of n slots can be written for these numbers
 pub record Writable (n live t : ℕ) (nx pv st : List ℕ) : Type 0 where

@@ -1,6 +1,6 @@
 -- How a rearrangement of slots is carried out in place, as a row of exchanges: slot i with the slot where the entry of place i stands by then.
 -- Assumes nothing.
-use Rattle.std.specs.Prelude.{ℕ, zero, suc, ◌≤◌, ◌<◌, List, [], ◌∷◌, get_or, set}
+use Rattle.std.specs.Prelude.{ℕ, zero, suc, ◌≤◌, ◌<◌, List, [], ◌∷◌, swap}
 use Rattle.model.specs.Codes.{count}
 use Rattle.list.specs.Order.{ifeq}
 
@@ -16,14 +16,10 @@ partners zero i slots = []
 partners (suc k) i [] = []
 partners (suc k) i (s ∷ rest) = s ∷ partners k (suc i) (renamed i s rest)
 
--- the list with the numbers at a and b exchanged
-abbrev pub exchanged : ℕ → ℕ → List ℕ → List ℕ
-exchanged a b l = set (set l a (get_or l b 0)) b (get_or l a 0)
-
 -- slot i exchanged with the first, slot i + 1 with the second, and so on
-abbrev pub exchanges : ℕ → List ℕ → List ℕ → List ℕ
+abbrev pub exchanges : {A : Type 0} → ℕ → List ℕ → List A → List A
 exchanges i [] l = l
-exchanges i (s ∷ ss) l = exchanges (suc i) ss (exchanged i s l)
+exchanges i (s ∷ ss) l = exchanges (suc i) ss (swap l i s)
 
 -- the slots are from i to below n, each once
 pub record Fit (i n : ℕ) (slots : List ℕ) : Type 0 where
