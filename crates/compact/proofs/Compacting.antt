@@ -105,8 +105,8 @@ module _ (h : Head) (nx pv st : List ℕ) (g : Fields) (t : ℕ) (p : Compactabl
       weights = exchangeable g.weights p.reach.weights;
     }
 
-    pub reorder_writable : Writable h.slots h.live t nx pv1 st1
-    reorder_writable = record {
+    pub reorder_writable : (nx1 : List ℕ) → nx1 ≡ nx → Writable h.slots h.live t nx1 pv1 st1
+    reorder_writable nx1 q = rw q record {
       small = compactable_walk.small;
       low = p.low;
       high = p.high;
@@ -121,24 +121,26 @@ module _ (h : Head) (nx pv st : List ℕ) (g : Fields) (t : ℕ) (p : Compactabl
         let q : m ≡ exchanges 0 (partners (length o) 0 o) l = e ∙ ap (λ (s : List ℕ). exchanges 0 s l) (row_is ∙ ap (λ (s : List ℕ). partners (length s) 0 s) w) in
         rw q (carried h.slots o l (linked_fit h nx pv st o f d) k)
 
-    pub reordered : (g' : Fields) (nx2 pv2 st2 : List ℕ) (r : Head) → Exchanged (take h.live st1) g g'
-        → LinksWritten h.slots h.live t nx pv1 st1 nx2 pv2 st2 → HeadOf h t r
+    pub reordered : (g' : Fields) (nx1 nx2 pv2 st2 : List ℕ) (r : Head) → nx1 ≡ nx → Exchanged (take h.live st1) g g'
+        → LinksWritten h.slots h.live t nx1 pv1 st1 nx2 pv2 st2 → HeadOf h t r
         → Reordered h r nx pv st nx2 pv2 st2 g g' t
-    reordered g' nx2 pv2 st2 r x w y = record {
-      rest = y.rest;
-      live = y.live;
-      compacted = record {
-        top = y.top;
-        next_tail = w.nexts.tail;
-        prev_tail = tail_trans a.tail w.prevs.tail;
-        stack_tail = tail_trans (record { size = stack_long; tail = stack_kept }) w.stacks.tail;
-        linked = λ o f d. subst (λ (l : ℕ). Linked r nx2 pv2 st2 (up_from 0 l) (up_from l (t - l)) []) (live_is h nx pv st o f d)
-            (written_linked h r t nx pv1 st1 nx2 pv2 st2 reorder_writable y w);
-        moved = λ o f d. record {
-          codes = carry o f d g.codes g'.codes p.reach.codes x.codes;
-          stamps = carry o f d g.stamps g'.stamps p.reach.stamps x.stamps;
-          values = carry o f d g.values g'.values p.reach.values x.values;
-          weights = carry o f d g.weights g'.weights p.reach.weights x.weights;
-        };
-      };
-    }
+    reordered g' nx1 nx2 pv2 st2 r q x w₁ y =
+        let w : LinksWritten h.slots h.live t nx pv1 st1 nx2 pv2 st2 = subst (λ (l : List ℕ). LinksWritten h.slots h.live t l pv1 st1 nx2 pv2 st2) q w₁ in
+        record {
+          rest = y.rest;
+          live = y.live;
+          compacted = record {
+            top = y.top;
+            next_tail = w.nexts.tail;
+            prev_tail = tail_trans a.tail w.prevs.tail;
+            stack_tail = tail_trans (record { size = stack_long; tail = stack_kept }) w.stacks.tail;
+            linked = λ o f d. subst (λ (l : ℕ). Linked r nx2 pv2 st2 (up_from 0 l) (up_from l (t - l)) []) (live_is h nx pv st o f d)
+                (written_linked h r t nx pv1 st1 nx2 pv2 st2 (reorder_writable nx refl) y w);
+            moved = λ o f d. record {
+              codes = carry o f d g.codes g'.codes p.reach.codes x.codes;
+              stamps = carry o f d g.stamps g'.stamps p.reach.stamps x.stamps;
+              values = carry o f d g.values g'.values p.reach.values x.values;
+              weights = carry o f d g.weights g'.weights p.reach.weights x.weights;
+            };
+          };
+        }

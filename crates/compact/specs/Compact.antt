@@ -1,8 +1,6 @@
 -- What compacting a list of slots needs and leaves.
 -- Assumes nothing.
 use Rattle.std.specs.Prelude.{ℕ, ◌-◌, ◌≤◌, ◌<◌, min, ◌≡◌, List, [], ◌++◌, length, get_or, take, drop}
-use Rattle.std.specs.Borrow.{MutBor}
-use denote.Triple.Both.{Both}
 use Rattle.head.specs.declared.Head.{Head}
 use Rattle.head.specs.Bounds.{most_slots}
 use Rattle.head.specs.Fresh.{recapped}
@@ -15,22 +13,6 @@ use Rattle.list.specs.Links.{Linked, Sound, Rest}
 use Rattle.compact.specs.Plan.{partners, exchanges, Fit}
 use Rattle.compact.specs.Anew.{NextOf, PrevOf, StackOf, Filled}
 use Rattle.head.specs.Fields.{Fields, Reach}
-
--- four lent lists as they stand
-abbrev pub fields : MutBor (List ℕ) → MutBor (List ℕ) → MutBor (List ℕ) → MutBor (List ℕ) → Fields
-fields c s v w = record { codes = c.now; stamps = s.now; values = v.now; weights = w.now }
-
--- a lent list before and after a call
-abbrev pub Over : Type 0
-Over = Both (MutBor (List ℕ)) (MutBor (List ℕ))
-
--- as the call found them
-abbrev pub fields₀ : Over → Over → Over → Over → Fields
-fields₀ c s v w = fields c.entry s.entry v.entry w.entry
-
--- as the call left them
-abbrev pub fields₁ : Over → Over → Over → Over → Fields
-fields₁ c s v w = fields c.exit s.exit v.exit w.exit
 
 -- the first numbers of each list are exchanged in this row
 pub record Exchanged (ss : List ℕ) (f g : Fields) : Type 0 where

@@ -2,51 +2,59 @@
 // the stack's cells and prev serve as the memory that this takes.
 #![tactic(auto)]
 
-ghost use Rattle.std.specs.Prelude.{◌≡◌, ◌≤◌, ◌<◌, take};
+ghost use Rattle.std.specs.Prelude.{◌≡◌, ◌≤◌, ◌<◌, length, take};
+ghost use Rattle.state.specs.State.{held, lent, SameFields, SameLinks, SameLists};
 ghost use Rattle.head.specs.Bounds.{most_slots};
 ghost use Rattle.head.specs.Walks.{walk};
 ghost use Rattle.compact.specs.Plan.{exchanges};
 ghost use Rattle.compact.specs.Anew.{HeadOf, FrontOf, BackOf, NextOf, PrevOf, StackOf};
-ghost use Rattle.compact.specs.Compact.{fields, fields₀, fields₁, Walkable, Numbered, Plannable, Planned, Exchangeable, AllExchangeable, Exchanged, Writable, LinksWritten, Compactable, Reordered, Resizable, Resized};
+ghost use Rattle.compact.specs.Compact.{Walkable, Numbered, Plannable, Planned, Exchangeable, AllExchangeable, Exchanged, Writable, LinksWritten, Compactable, Reordered, Resizable, Resized};
 
 use head::{Head, Place, Slot};
 use list::put;
+use state::{Fields, Links, State};
 
 // Writes the order into the stack's cells, front first, and each slot's place in it into prev, none for the slots outside it.
-fn number(front: u32, next: &[u32], prev: &mut [u32], stack: &mut [u32], n: u32, live: u32)
-    requires { Walkable n live front next.now prev.old stack.old }
-    ensures { Numbered n (walk next.now front live) prev.old stack.old prev.new stack.new }
+fn number(links: &mut Links<'_>, front: u32, n: u32, live: u32)
+    requires { Walkable n live front links.old.next.now links.old.prev.now links.old.stack.now }
+    ensures lists { SameLinks links.old links.new }
+    ensures next { links.new.next.now ≡ links.old.next.now }
+    ensures numbered { Numbered n (walk links.old.next.now front live) links.old.prev.now links.old.stack.now links.new.prev.now links.new.stack.now }
 {
-    list::fill(prev, n, Head::NONE);
+    list::fill(links.prev, n, Head::NONE);
     let mut s = front;
     for k in 0..live {
-        stack[k as usize] = s;
-        prev[s as usize] = k;
-        s = next[s as usize];
+        links.stack[k as usize] = s;
+        links.prev[s as usize] = k;
+        s = links.next[s as usize];
     }
 }
 
 // Turns the order in the stack's cells into the row of exchanges that brings each entry to its place. What stands in slot i, of
 // place k or of none, goes to slot s, so the order's place k names s from then on.
-fn plan(prev: &mut [u32], stack: &mut [u32], n: u32, live: u32)
-    requires { Plannable n live prev.old stack.old }
-    ensures { Planned n (take live stack.old) prev.old stack.old prev.new stack.new }
+fn plan(links: &mut Links<'_>, n: u32, live: u32)
+    requires { Plannable n live links.old.prev.now links.old.stack.now }
+    ensures lists { SameLinks links.old links.new }
+    ensures next { links.new.next.now ≡ links.old.next.now }
+    ensures planned { Planned n (take live links.old.stack.now) links.old.prev.now links.old.stack.now links.new.prev.now links.new.stack.now }
 {
     for i in 0..live as usize {
-        let s = stack[i];
-        let k = prev[i];
-        put(prev, n, s, k);
-        put(stack, live, k, s);
+        let s = links.stack[i];
+        let k = links.prev[i];
+        put(links.prev, n, s, k);
+        put(links.stack, live, k, s);
     }
 }
 
 // Leaves in the stack's cells the row of exchanges that brings each entry to its place.
-fn arrange(front: u32, next: &[u32], prev: &mut [u32], stack: &mut [u32], n: u32, live: u32)
-    requires { Walkable n live front next.now prev.old stack.old }
-    ensures { Planned n (walk next.now front live) prev.old stack.old prev.new stack.new }
+fn arrange(links: &mut Links<'_>, front: u32, n: u32, live: u32)
+    requires { Walkable n live front links.old.next.now links.old.prev.now links.old.stack.now }
+    ensures lists { SameLinks links.old links.new }
+    ensures next { links.new.next.now ≡ links.old.next.now }
+    ensures planned { Planned n (walk links.old.next.now front live) links.old.prev.now links.old.stack.now links.new.prev.now links.new.stack.now }
 {
-    number(front, next, prev, stack, n, live);
-    plan(prev, stack, n, live);
+    number(links, front, n, live);
+    plan(links, n, live);
 }
 
 // Exchanges element i with element row[i], for each i in turn.
@@ -60,20 +68,17 @@ fn exchange<T: Copy>(list: &mut [T], row: &[u32])
 }
 
 // Each list of fields in the same row.
-fn exchange_fields(
-    codes: &mut [u64],
-    stamps: &mut [u32],
-    values: &mut [u64],
-    weights: &mut [u64],
-    row: &[u32],
-)
-    requires { AllExchangeable row.now (fields codes stamps values weights) }
-    ensures { Exchanged row.now (fields₀ codes stamps values weights) (fields₁ codes stamps values weights) }
+fn exchange_fields(fields: &mut Fields<'_>, links: &Links<'_>, live: u32)
+    requires long { live ≤ length links.now.stack.now }
+    requires row { AllExchangeable (take live links.now.stack.now) (held fields.old) }
+    ensures lists { SameFields fields.old fields.new }
+    ensures exchanged { Exchanged (take live links.now.stack.now) (held fields.old) (held fields.new) }
 {
-    exchange(codes, row);
-    exchange(stamps, row);
-    exchange(values, row);
-    exchange(weights, row);
+    let row = &links.stack[..live as usize];
+    exchange(fields.codes, row);
+    exchange(fields.stamps, row);
+    exchange(fields.values, row);
+    exchange(fields.weights, row);
 }
 
 // The links of a compact list: what the head's ends, a slot's links and a cell of the stack hold.
@@ -122,14 +127,15 @@ fn stack_of(live: u32, top: u32, k: u32) -> u32
 }
 
 // Writes the links of n slots: those below live in this order, those from there to top on the stack.
-fn write_links(next: &mut [u32], prev: &mut [u32], stack: &mut [u32], n: u32, live: u32, top: u32)
-    requires { Writable n live top next.old prev.old stack.old }
-    ensures { LinksWritten n live top next.old prev.old stack.old next.new prev.new stack.new }
+fn write_links(links: &mut Links<'_>, n: u32, live: u32, top: u32)
+    requires { Writable n live top links.old.next.now links.old.prev.now links.old.stack.now }
+    ensures lists { SameLinks links.old links.new }
+    ensures written { LinksWritten n live top links.old.next.now links.old.prev.now links.old.stack.now links.new.next.now links.new.prev.now links.new.stack.now }
 {
     for i in 0..n {
-        next[i as usize] = next_of(live, i);
-        prev[i as usize] = prev_of(live, top, i);
-        stack[i as usize] = stack_of(live, top, i);
+        links.next[i as usize] = next_of(live, i);
+        links.prev[i as usize] = prev_of(live, top, i);
+        links.stack[i as usize] = stack_of(live, top, i);
     }
 }
 
@@ -147,49 +153,34 @@ fn head_of(head: Head, top: Slot) -> Head
     }
 }
 
-// Puts the entry at place i of the order in slot i, with its fields, and makes the stack live..top, ascending.
-pub fn reorder(
-    head: Head,
-    next: &mut [u32],
-    prev: &mut [u32],
-    stack: &mut [u32],
-    codes: &mut [u64],
-    stamps: &mut [u32],
-    values: &mut [u64],
-    weights: &mut [u64],
-    top: Slot,
-) -> Head
-    requires { Compactable head next.old prev.old stack.old (fields codes stamps values weights) top.0 }
-    ensures { Reordered head result next.old prev.old stack.old next.new prev.new stack.new (fields₀ codes stamps values weights) (fields₁ codes stamps values weights) top.0 }
+// Puts the entry at place i of the order in slot i, with its fields, and makes the stack live..top, ascending. The table is left as it is.
+pub fn reorder(state: &mut State<'_>, top: Slot)
+    requires { Compactable state.old.head (lent state.old).nexts (lent state.old).prevs (lent state.old).stack (lent state.old).fields top.0 }
+    ensures lists { SameLists state.old state.new }
+    ensures cells { (lent state.new).cells ≡ (lent state.old).cells }
+    ensures reordered { Reordered state.old.head state.new.head (lent state.old).nexts (lent state.old).prevs (lent state.old).stack (lent state.new).nexts (lent state.new).prevs (lent state.new).stack (lent state.old).fields (lent state.new).fields top.0 }
 {
-    let n = head.slots;
-    let live = head.live;
-    arrange(head.front.0, next, prev, stack, n, live);
-    exchange_fields(codes, stamps, values, weights, &stack[..live as usize]);
-    write_links(next, prev, stack, n, live, top.0);
-    head_of(head, top)
+    let head = state.head;
+    arrange(&mut state.links, head.front.0, head.slots, head.live);
+    exchange_fields(&mut state.fields, &state.links, head.live);
+    write_links(&mut state.links, head.slots, head.live, top.0);
+    state.head = head_of(head, top);
 }
 
 // Sets the capacity, which holds all entries. Where it shrinks, the entry at place i of the order comes to slot i, and the slots
-// from there to the smaller of top and the capacity are the stack, ascending. Otherwise no slot moves.
-pub fn resize(
-    head: Head,
-    next: &mut [u32],
-    prev: &mut [u32],
-    stack: &mut [u32],
-    codes: &mut [u64],
-    stamps: &mut [u32],
-    values: &mut [u64],
-    weights: &mut [u64],
-    capacity: u64,
-) -> Head
-    requires { Resizable head next.old prev.old stack.old (fields codes stamps values weights) capacity }
-    ensures { Resized head result next.old prev.old stack.old next.new prev.new stack.new (fields₀ codes stamps values weights) (fields₁ codes stamps values weights) capacity }
+// from there to the smaller of top and the capacity are the stack, ascending. Otherwise no slot moves. The table is left as it is.
+pub fn resize(state: &mut State<'_>, capacity: u64)
+    requires { Resizable state.old.head (lent state.old).nexts (lent state.old).prevs (lent state.old).stack (lent state.old).fields capacity }
+    ensures lists { SameLists state.old state.new }
+    ensures cells { (lent state.new).cells ≡ (lent state.old).cells }
+    ensures resized { Resized state.old.head state.new.head (lent state.old).nexts (lent state.old).prevs (lent state.old).stack (lent state.new).nexts (lent state.new).prevs (lent state.new).stack (lent state.old).fields (lent state.new).fields capacity }
 {
+    let head = state.head;
     if head.capacity <= capacity {
-        return head.with_capacity(capacity);
+        state.head = head.with_capacity(capacity);
+    } else {
+        reorder(state, Slot(capacity.min(u64::from(head.top.0)) as u32));
+        let compact = state.head;
+        state.head = compact.with_capacity(capacity);
     }
-    let top = Slot(capacity.min(u64::from(head.top.0)) as u32);
-    let done = reorder(head, next, prev, stack, codes, stamps, values, weights, top);
-    done.with_capacity(capacity)
 }

@@ -74,12 +74,12 @@ module _ {h : Head} {f : Fields} {nx pv st cells : List ℕ} {n : ℕ} (o : Hold
         ∙ moved_rows entry h.slots c.slots.order f g ((w.shrunk lt).moved c.slots.order c.slots.free d.links)
         ∙ sym (gather_map f c.slots.order) ∙ d.entries
 
-    pub shrunk_keyed : Keyed h.slots cells g.codes nx' (walk nx' r.front.0 r.live)
-    shrunk_keyed =
+    pub shrunk_keyed : (cells1 : List ℕ) → cells1 ≡ cells → Keyed r.slots cells1 g.codes nx' (walk nx' r.front.0 r.live)
+    shrunk_keyed cells1 q =
         let d = o.described in
         let c = o.cache in
         let l = (w.shrunk lt).linked c.slots.order c.slots.free d.links in
-        subst (λ (k : ℕ). Keyed k cells g.codes nx' (walk nx' r.front.0 r.live)) w.slots
+        rw q
         (walk_keyed l g cells moved_reach
         (omega (arith, d.lawful.room.0, d.room, w.slots))
         (omega (arith, d.table.tidy.wide, w.slots))
@@ -94,55 +94,62 @@ module _ {h : Head} {f : Fields} {nx pv st cells : List ℕ} {n : ℕ} (o : Hold
     }
 
     -- a smaller capacity, and the table made anew
-    pub capped_shrunk : (cells' : List ℕ) → Rebuilt (home_of h.slots) (2 * h.slots) g.codes (walk nx' r.front.0 r.live) cells cells'
+    pub capped_shrunk : (cells1 cells' : List ℕ) → cells1 ≡ cells
+        → Rebuilt (home_of r.slots) (2 * r.slots) g.codes (walk nx' r.front.0 r.live) cells1 cells'
         → Capped (state_of h f nx pv st cells) (state_of r g nx' pv' st' cells') n
-    capped_shrunk cells' b = record {
-      tails =
-          let q = w.shrunk lt in
-          let m = q.moved o.cache.slots.order o.cache.slots.free o.described.links in
-          record {
-            codes = m.codes.tail;
-            stamps = m.stamps.tail;
-            values = m.values.tail;
-            weights = m.weights.tail;
-            nexts = q.next_tail;
-            prevs = q.prev_tail;
-            stacks = q.stack_tail;
-            table = b.tail;
-          };
-      described = λ c fits d.
-          let q = w.shrunk lt in
-          let order = c.slots.order in
-          let free = c.slots.free in
-          let l : Linked r nx' pv' st' (up_from 0 (length order)) (up_from (length order) (min c.slots.top n - length order)) [] =
-          rw (← d.top) (q.linked order free d.links) in
-          let blanks = moved_blank h.slots order f g (q.moved order free d.links) (all_blank c d) in
-          let eq : (capped n c).slots ≡ compacted n c.slots = rw (lt-ltb n c.desk.capacity (omega (arith, d.capacity))) in
-          subst (λ (z : Slots). Describes r g nx' pv' st' cells' (record { desk = (capped n c).desk; slots = z })) (sym eq)
-          (record {
-            kind = w.kind ∙ d.kind;
-            capacity = w.capacity;
-            room = w.slots ∙ d.room;
-            weight = w.weight ∙ d.weight;
-            top = q.top ∙ ap (λ (t : ℕ). min t n) d.top;
-            lawful = refit n c d.lawful o.allowed.0 o.allowed.1 fits;
-            reach = moved_reach;
-            links = l;
-            entries = same_entries c d;
-            blanks = λ u k z.
-                let k₀ : u < h.slots = omega (arith, w.slots) in
-                rw (blanks.codes u k₀ z, blanks.stamps u k₀ z, blanks.values u k₀ z, blanks.weights u k₀ z);
-            table = rw (w.slots, order_is l) b.sound;
-          });
-      table = λ ge. absurd (omega arith);
-    }
+    capped_shrunk cells1 cells' same b₁ =
+        let order' : List ℕ = walk nx' r.front.0 r.live in
+        let b₀ : Rebuilt (home_of r.slots) (2 * r.slots) g.codes order' cells cells' =
+        subst (λ (l : List ℕ). Rebuilt (home_of r.slots) (2 * r.slots) g.codes order' l cells') same b₁ in
+        let b : Rebuilt (home_of h.slots) (2 * h.slots) g.codes order' cells cells' =
+        subst (λ (k : ℕ). Rebuilt (home_of k) (2 * k) g.codes order' cells cells') w.slots b₀ in
+        record {
+          tails =
+              let q = w.shrunk lt in
+              let m = q.moved o.cache.slots.order o.cache.slots.free o.described.links in
+              record {
+                codes = m.codes.tail;
+                stamps = m.stamps.tail;
+                values = m.values.tail;
+                weights = m.weights.tail;
+                nexts = q.next_tail;
+                prevs = q.prev_tail;
+                stacks = q.stack_tail;
+                table = b.tail;
+              };
+          described = λ c fits d.
+              let q = w.shrunk lt in
+              let order = c.slots.order in
+              let free = c.slots.free in
+              let l : Linked r nx' pv' st' (up_from 0 (length order)) (up_from (length order) (min c.slots.top n - length order)) [] =
+              rw (← d.top) (q.linked order free d.links) in
+              let blanks = moved_blank h.slots order f g (q.moved order free d.links) (all_blank c d) in
+              let eq : (capped n c).slots ≡ compacted n c.slots = rw (lt-ltb n c.desk.capacity (omega (arith, d.capacity))) in
+              subst (λ (z : Slots). Describes r g nx' pv' st' cells' (record { desk = (capped n c).desk; slots = z })) (sym eq)
+              (record {
+                kind = w.kind ∙ d.kind;
+                capacity = w.capacity;
+                room = w.slots ∙ d.room;
+                weight = w.weight ∙ d.weight;
+                top = q.top ∙ ap (λ (t : ℕ). min t n) d.top;
+                lawful = refit n c d.lawful o.allowed.0 o.allowed.1 fits;
+                reach = moved_reach;
+                links = l;
+                entries = same_entries c d;
+                blanks = λ u k z.
+                    let k₀ : u < h.slots = omega (arith, w.slots) in
+                    rw (blanks.codes u k₀ z, blanks.stamps u k₀ z, blanks.values u k₀ z, blanks.weights u k₀ z);
+                table = rw (w.slots, order_is l) b.sound;
+              });
+          table = λ ge. absurd (omega arith);
+        }
 
   -- an equal or larger one: nothing moved
-  pub capped_stayed : (r : Head) (g : Fields) (nx' pv' st' : List ℕ) → Resized h r nx pv st nx' pv' st' f g n → h.capacity ≤ n
-      → Capped (state_of h f nx pv st cells) (state_of r g nx' pv' st' cells) n
-  capped_stayed r g nx' pv' st' w ge =
+  pub capped_stayed : (r : Head) (g : Fields) (nx' pv' st' cells1 : List ℕ) → cells1 ≡ cells → Resized h r nx pv st nx' pv' st' f g n → h.capacity ≤ n
+      → Capped (state_of h f nx pv st cells) (state_of r g nx' pv' st' cells1) n
+  capped_stayed r g nx' pv' st' cells1 same w ge =
       let s = w.stayed ge in
-      rw (s.head, s.nexts, s.prevs, s.stacks, s.fields)
+      rw (s.head, s.nexts, s.prevs, s.stacks, s.fields, same)
       (record {
         tails = tails_same f nx pv st cells;
         described = λ c fits d. grow_described d n (le-ltb n c.desk.capacity (omega (arith, d.capacity))) o.allowed.0 o.allowed.1 fits;

@@ -3,7 +3,6 @@
 use Rattle.std.specs.Prelude.{ℕ, ◌*◌, ◌≤◌, ◌<◌, List, [], ◌∷◌, ◌≡◌}
 use lib.ListN.{length}
 pub use Rattle.state.specs.Entries.{Writable, Wrote}
-use Rattle.head.specs.declared.Head.{Head}
 use Rattle.head.specs.declared.Row.{Row}
 use Rattle.head.specs.Tails.{Tail}
 use Rattle.model.specs.Lists.{only}

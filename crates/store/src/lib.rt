@@ -101,7 +101,12 @@ pub fn add(state: &mut State<'_>, row: Row)
     let weight = head.weight + row.weight;
     let taken = list::push_front(head, &mut state.links);
     state.fields.write(taken.slot.0, row);
-    insert(&mut state.cells, &state.fields, head.slots as usize, taken.slot);
+    insert(
+        &mut state.cells,
+        &state.fields,
+        head.slots as usize,
+        taken.slot,
+    );
     state.head = taken.head.with_weight(weight);
 }
 
@@ -134,3 +139,16 @@ pub fn empty(state: &mut State<'_>)
     state.head = left.with_weight(0);
 }
 
+// Sets the capacity. A smaller one puts the entry at place i in slot i, fields and all, and makes the table anew; any other moves nothing.
+pub fn resize(state: &mut State<'_>, capacity: u64)
+    requires { Holds (lent state.old) capacity }
+    ensures lists { SameLists state.old state.new }
+    ensures capped { Capped (lent state.old) (lent state.new) capacity }
+{
+    let before = state.head.capacity;
+    compact::resize(state, capacity);
+    if capacity < before {
+        let head = state.head;
+        rebuild(&mut state.cells, &state.fields, &state.links, head);
+    }
+}
