@@ -21,6 +21,7 @@ use Rattle.store.specs.Acts.{Occupied, Dropped, Admits, Added, Rich, Shed, Holds
 use Rattle.plan.specs.declared.Plan.TheVariants.{Place, Replace, Fit}
 use Rattle.plan.specs.Plans.{place_of, Ready}
 use Rattle.act.specs.Acted.{Prepared, Acted}
+use Rattle.state.specs.State.{state_of}
 use Rattle.act.proofs.Deciding.{packed, acted, tails_then}
 
 -- what fits does so whatever entries are held
@@ -28,8 +29,8 @@ takes_held : {d : Desk} {e : Row} (held es : List Row) → Takes d e es → Take
 takes_held held es t = record { within = t.within; roomy = t.roomy; light = t.light }
 
 -- an eviction leaves the slot count
-shed_slots : {h r : Head} {f g : Fields} {nx pv st cells nx' pv' st' cells' : List ℕ} {k : ℕ} → Rich h f nx pv st cells k
-    → Shed h f nx pv st cells r g nx' pv' st' cells' k
+shed_slots : {h r : Head} {f g : Fields} {nx pv st cells nx' pv' st' cells' : List ℕ} {k : ℕ} → Rich (state_of h f nx pv st cells) k
+    → Shed (state_of h f nx pv st cells) (state_of r g nx' pv' st' cells') k
     → r.slots ≡ h.slots
 shed_slots o q = (q.described o.cache o.some o.described).room ∙ sym o.described.room
 
@@ -37,12 +38,12 @@ shed_slots o q = (q.described o.cache o.some o.described).room ∙ sym o.describ
 
 module _ {h : Head} {f : Fields} {nx pv st cells : List ℕ} {k : ℕ} {e : Row} (p : Prepared (Place k e) (packed h f nx pv st cells)) where
   -- there are as many to leave as the plan says
-  pub place_rich : Rich h f nx pv st cells k
+  pub place_rich : Rich (state_of h f nx pv st cells) k
   place_rich = record { cache = p.cache; described = p.means; some = p.ready.named }
 
-  module _ {r : Head} {g : Fields} {nx' pv' st' cells' : List ℕ} (q : Shed h f nx pv st cells r g nx' pv' st' cells' k) where
+  module _ {r : Head} {g : Fields} {nx' pv' st' cells' : List ℕ} (q : Shed (state_of h f nx pv st cells) (state_of r g nx' pv' st' cells') k) where
     -- what is left takes the row
-    pub place_admits : Admits r g nx' pv' st' cells' e
+    pub place_admits : Admits (state_of r g nx' pv' st' cells') e
     place_admits =
         let es : List Row = but_last k p.cache.desk.entries in
         record {
@@ -52,7 +53,7 @@ module _ {h : Head} {f : Fields} {nx pv st cells : List ℕ} {k : ℕ} {e : Row}
           absent = p.ready.apart;
         }
 
-    pub place_acted : {r₂ : Head} {g₂ : Fields} {nx₂ pv₂ st₂ cells₂ : List ℕ} → Added r g nx' pv' st' cells' r₂ g₂ nx₂ pv₂ st₂ cells₂ e
+    pub place_acted : {r₂ : Head} {g₂ : Fields} {nx₂ pv₂ st₂ cells₂ : List ℕ} → Added (state_of r g nx' pv' st' cells') (state_of r₂ g₂ nx₂ pv₂ st₂ cells₂) e
         → Acted (Place k e) (packed h f nx pv st cells) (packed r₂ g₂ nx₂ pv₂ st₂ cells₂)
     place_acted a =
         acted (Place k e) (λ o d. refl)
@@ -64,12 +65,12 @@ module _ {h : Head} {f : Fields} {nx pv st cells : List ℕ} {k : ℕ} {e : Row}
 -- ---- so many leave, then the capacity is set
 
 module _ {h : Head} {f : Fields} {nx pv st cells : List ℕ} {k n : ℕ} (p : Prepared (Fit k n) (packed h f nx pv st cells)) where
-  pub fit_rich : Rich h f nx pv st cells k
+  pub fit_rich : Rich (state_of h f nx pv st cells) k
   fit_rich = record { cache = p.cache; described = p.means; some = p.ready.named }
 
-  module _ {r : Head} {g : Fields} {nx' pv' st' cells' : List ℕ} (q : Shed h f nx pv st cells r g nx' pv' st' cells' k) where
+  module _ {r : Head} {g : Fields} {nx' pv' st' cells' : List ℕ} (q : Shed (state_of h f nx pv st cells) (state_of r g nx' pv' st' cells') k) where
     -- what is left fits the capacity
-    pub fit_holds : Holds r g nx' pv' st' cells' n
+    pub fit_holds : Holds (state_of r g nx' pv' st' cells') n
     fit_holds = record {
       cache = shed k p.cache;
       described = q.described p.cache p.ready.named p.means;
@@ -77,7 +78,7 @@ module _ {h : Head} {f : Fields} {nx pv st cells : List ℕ} {k n : ℕ} (p : Pr
       fits = p.ready.proper.2;
     }
 
-    pub fit_acted : {r₂ : Head} {g₂ : Fields} {nx₂ pv₂ st₂ cells₂ : List ℕ} → Capped r g nx' pv' st' cells' r₂ g₂ nx₂ pv₂ st₂ cells₂ n
+    pub fit_acted : {r₂ : Head} {g₂ : Fields} {nx₂ pv₂ st₂ cells₂ : List ℕ} → Capped (state_of r g nx' pv' st' cells') (state_of r₂ g₂ nx₂ pv₂ st₂ cells₂) n
         → Acted (Fit k n) (packed h f nx pv st cells) (packed r₂ g₂ nx₂ pv₂ st₂ cells₂)
     fit_acted a =
         record {
@@ -104,7 +105,7 @@ replace_ready s k e c r =
 
 module _ {h : Head} {f : Fields} {nx pv st cells : List ℕ} {s : Slot} {k : ℕ} {e : Row} (p : Prepared (Replace s k e) (packed h f nx pv st cells)) where
   -- the slot that the plan names is occupied
-  pub replace_occupied : Occupied h f nx pv st cells s.0
+  pub replace_occupied : Occupied (state_of h f nx pv st cells) s.0
   replace_occupied = record {
     cache = p.cache;
     described = p.means;
@@ -112,7 +113,7 @@ module _ {h : Head} {f : Fields} {nx pv st cells : List ℕ} {s : Slot} {k : ℕ
     there = p.ready.named.0;
   }
 
-  module _ {r : Head} {g : Fields} {nx' pv' st' cells' : List ℕ} (q : Dropped h f nx pv st cells r g nx' pv' st' cells' s.0) where
+  module _ {r : Head} {g : Fields} {nx' pv' st' cells' : List ℕ} (q : Dropped (state_of h f nx pv st cells) (state_of r g nx' pv' st' cells') s.0) where
     -- the state after that is ready for a placement
     pub replace_prepared : Prepared (Place k e) (packed r g nx' pv' st' cells')
     replace_prepared =

@@ -28,6 +28,7 @@ use Rattle.sweep.specs.Swept.{Swept}
 use Rattle.plan.specs.declared.Plan.TheVariants.{Raise, Set, Renew, Drop, Sweep, Clear}
 use Rattle.plan.specs.Plans.{place_of, Stands}
 use Rattle.act.specs.Acted.{Prepared, Acted}
+use Rattle.state.specs.State.{state_of}
 use Rattle.act.proofs.Deciding.{packed, acted, acted_beside}
 
 -- the fields with other values
@@ -62,11 +63,11 @@ emptied (r ∷ es) e = let z = eqb-true (suc (length es)) 0 e in absurd (omega a
 
 module _ {h : Head} {f : Fields} {nx pv st cells : List ℕ} where
   -- a slot that stands in the order is occupied
-  standing : {c : Cache} (s : Slot) → Stands s.0 c → Describes h f nx pv st cells c → Occupied h f nx pv st cells s.0
+  standing : {c : Cache} (s : Slot) → Stands s.0 c → Describes h f nx pv st cells c → Occupied (state_of h f nx pv st cells) s.0
   standing {c} s t d = record { cache = c; described = d; place = place_of s.0 c.slots.order; there = t }
 
   -- and the links reach it
-  occupied_room : {s : ℕ} → Occupied h f nx pv st cells s → Room h nx pv s
+  occupied_room : {s : ℕ} → Occupied (state_of h f nx pv st cells) s → Room h nx pv s
   occupied_room o = record {
     slot = occupied_in o;
     nexts = o.described.links.long.nexts;
@@ -118,11 +119,11 @@ module _ {h : Head} {f : Fields} {nx pv st cells : List ℕ} where
 
   -- ---- an entry leaves
 
-  pub drop_occupied : {s : Slot} → Prepared (Drop s) (packed h f nx pv st cells) → Occupied h f nx pv st cells s.0
+  pub drop_occupied : {s : Slot} → Prepared (Drop s) (packed h f nx pv st cells) → Occupied (state_of h f nx pv st cells) s.0
   drop_occupied {s} p = standing s p.ready.named p.means
 
   module _ {r : Head} {g : Fields} {nx' pv' st' cells' : List ℕ} where
-    pub drop_acted : {s : Slot} → Dropped h f nx pv st cells r g nx' pv' st' cells' s.0
+    pub drop_acted : {s : Slot} → Dropped (state_of h f nx pv st cells) (state_of r g nx' pv' st' cells') s.0
         → Acted (Drop s) (packed h f nx pv st cells) (packed r g nx' pv' st' cells')
     drop_acted {s} q =
         acted (Drop s) (λ o d. refl) q.tails
@@ -130,7 +131,7 @@ module _ {h : Head} {f : Fields} {nx pv st cells : List ℕ} where
 
     -- ---- a sweep
 
-    pub sweep_acted : {q : Rule} → Swept h f nx pv st cells r g nx' pv' st' cells' q
+    pub sweep_acted : {q : Rule} → Swept (state_of h f nx pv st cells) (state_of r g nx' pv' st' cells') q
         → Acted (Sweep q) (packed h f nx pv st cells) (packed r g nx' pv' st' cells')
     sweep_acted {q} w = record {
       tails = w.tails;
@@ -140,11 +141,11 @@ module _ {h : Head} {f : Fields} {nx pv st cells : List ℕ} where
 
     -- ---- all leave
 
-    pub clear_acted : Emptied h f nx pv st cells r g nx' pv' st' cells' → Acted Clear (packed h f nx pv st cells) (packed r g nx' pv' st' cells')
+    pub clear_acted : Emptied (state_of h f nx pv st cells) (state_of r g nx' pv' st' cells') → Acted Clear (packed h f nx pv st cells) (packed r g nx' pv' st' cells')
     clear_acted w = acted Clear (λ o d. refl) w.tails (λ c ready d. clear_described d r g nx' pv' st' cells' w)
 
   pub sweep_whole : {q : Rule} → Prepared (Sweep q) (packed h f nx pv st cells) → Whole h f nx pv st cells
   sweep_whole p = record { cache = p.cache; described = p.means }
 
-  pub clear_spacious : Prepared Clear (packed h f nx pv st cells) → Spacious h f nx pv st cells
+  pub clear_spacious : Prepared Clear (packed h f nx pv st cells) → Spacious (state_of h f nx pv st cells)
   clear_spacious p = described_spacious p.means

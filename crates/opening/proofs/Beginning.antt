@@ -22,8 +22,8 @@ use Rattle.store.specs.Acts.{Spacious, Emptied}
 use Rattle.store.proofs.Lengths.{all_reach}
 use Rattle.store.proofs.Emptied.{empty_described}
 use Rattle.plan.specs.States.{State, Means, TailsKept}
-use Rattle.opening.specs.declared.Opened.{Opened}
-use Rattle.opening.specs.declared.Opened.TheVariants.{Cache as Began, No}
+use Rattle.std.specs.Prelude.{Result, Ok, Err}
+use Rattle.state.specs.State.{state_of}
 use Rattle.opening.specs.Begun.{spacious, Opens}
 
 -- ---- which of the two an opening is
@@ -42,18 +42,18 @@ refusal_of d (opened x) = d
 
 module _ (kind c n : ℕ) (s : State) where
   -- refused where the test fails
-  pub opens_none : {r : Opened} → (allowed kind c n && spacious n s) ≡ false → r ≡ No NotOpened → Opens kind c n s s r
+  pub opens_none : {r : Result Head Refusal} → (allowed kind c n && spacious n s) ≡ false → r ≡ Err NotOpened → Opens kind c n s s r
   unfolding opening began refusal_of
   opens_none t q = record {
     opens = λ x e. absurd (true≢false (sym (ap began e) ∙ ap (λ (b : Bool). began (cond b (opened (fresh (kind_of kind) c n)) (refused NotOpened))) t));
     refuses = λ e z.
         let same : NotOpened ≡ e =
         sym (ap (λ (b : Bool). refusal_of NotOpened (cond b (opened (fresh (kind_of kind) c n)) (refused NotOpened))) t) ∙ ap (refusal_of NotOpened) z in
-        (q ∙ ap No same, refl);
+        (q ∙ ap (λ (x : Refusal). Err x) same, refl);
   }
 
   -- opened where it holds
-  pub opens_one : {t : State} {r : Opened} → (allowed kind c n && spacious n s) ≡ true → r ≡ Began t.head → Means t (fresh (kind_of kind) c n)
+  pub opens_one : {t : State} {r : Result Head Refusal} → (allowed kind c n && spacious n s) ≡ true → r ≡ Ok t.head → Means t (fresh (kind_of kind) c n)
       → TailsKept s t
       → Opens kind c n s t r
   unfolding opening began cache_of
@@ -75,7 +75,7 @@ kind_number_lem k h =
     (same? k 0)
 
 module _ (kind c n : ℕ) (s : State) (a : allowed kind c n ≡ true) (l : spacious n s ≡ true) where
-  pub fresh_spacious : {g : Head} → g ≡ fresh_head kind c n → Spacious g s.fields s.nexts s.prevs s.stack s.cells
+  pub fresh_spacious : {g : Head} → g ≡ fresh_head kind c n → Spacious (state_of g s.fields s.nexts s.prevs s.stack s.cells)
   fresh_spacious q =
       let w = fresh_lawful kind c n a in
       let p = all_reach n s.fields s.nexts s.prevs s.stack s.cells l in
@@ -86,7 +86,7 @@ module _ (kind c n : ℕ) (s : State) (a : allowed kind c n ≡ true) (l : spaci
         table = p.table;
       })
 
-  module _ {h : Head} (t : State) (e : Emptied (fresh_head kind c n) s.fields s.nexts s.prevs s.stack s.cells h t.fields t.nexts t.prevs t.stack t.cells) where
+  module _ {h : Head} (t : State) (e : Emptied (state_of (fresh_head kind c n) s.fields s.nexts s.prevs s.stack s.cells) (state_of h t.fields t.nexts t.prevs t.stack t.cells)) where
     emptied_head : h ≡ fresh_head kind c n
     emptied_head = λ i. record {
       kind = e.kind i;
@@ -114,24 +114,24 @@ module _ (kind c n : ℕ) (s : State) (a : allowed kind c n ≡ true) (l : spaci
         e.blanks
         e.table
 
-    opens_emptied : t.head ≡ fresh_head kind c n → s.head ≡ fresh_head kind c n → Opens kind c n s t (Began h)
+    opens_emptied : t.head ≡ fresh_head kind c n → s.head ≡ fresh_head kind c n → Opens kind c n s t (Ok h)
     opens_emptied q z =
-        opens_one kind c n s (rw (a, l) refl) (ap Began (emptied_head ∙ sym q))
+        opens_one kind c n s (rw (a, l) refl) (ap (λ (x : Head). Ok x) (emptied_head ∙ sym q))
         (subst (λ (x : Head). Describes x t.fields t.nexts t.prevs t.stack t.cells (fresh (kind_of kind) c n)) (emptied_head ∙ sym q) emptied_means)
         (rw z e.tails)
 
   -- the lists emptied under a fresh head
   pub opens_fresh : {g h : Head} (t : State) → g ≡ fresh_head kind c n → t.head ≡ fresh_head kind c n → s.head ≡ fresh_head kind c n
-      → Emptied g s.fields s.nexts s.prevs s.stack s.cells h t.fields t.nexts t.prevs t.stack t.cells
-      → Opens kind c n s t (Began h)
+      → Emptied (state_of g s.fields s.nexts s.prevs s.stack s.cells) (state_of h t.fields t.nexts t.prevs t.stack t.cells)
+      → Opens kind c n s t (Ok h)
   opens_fresh t q y z e = opens_emptied t (rw (← q) e) y z
 
 -- ---- as the code comes to it
 
 module _ (kind c n : ℕ) (s : State) {t : Bool} where
-  pub opens_not_allowed : t ≡ allowed kind c n → t ≡ false → Opens kind c n s s (No NotOpened)
+  pub opens_not_allowed : t ≡ allowed kind c n → t ≡ false → Opens kind c n s s (Err NotOpened)
   opens_not_allowed e z = opens_none kind c n s (rw (sym e ∙ z) refl) refl
 
-  pub opens_too_short : t ≡ spacious n s → t ≡ false → Opens kind c n s s (No NotOpened)
+  pub opens_too_short : t ≡ spacious n s → t ≡ false → Opens kind c n s s (Err NotOpened)
   opens_too_short e z =
       opens_none kind c n s (ap (λ (b : Bool). allowed kind c n && b) (sym e ∙ z) ∙ and_no (allowed kind c n)) refl

@@ -1,6 +1,6 @@
 -- What opening promises, whatever the lists hold.
 -- Assumes nothing.
-use Rattle.std.specs.Prelude.{ℕ, Bool, Result, Ok, Err, ◌≡◌}
+use Rattle.std.specs.Prelude.{ℕ, Result, Ok, Err, ◌≡◌}
 use Rattle.head.specs.declared.Refusal.{Refusal}
 use Rattle.model.specs.Perform.{Cache, opening, refused, opened}
 pub use Rattle.store.specs.Lengths.{spacious}

@@ -27,6 +27,7 @@ use Rattle.store.proofs.Evicting.{tails_same, tails_trans}
 use Rattle.store.proofs.Exchanged.{entry_at}
 use Rattle.store.proofs.Shedding.{swept_end, swept_kept, swept_dropped}
 use Rattle.store.proofs.Writing.{occupied_in}
+use Rattle.state.specs.State.{State, state_of}
 use Rattle.sweep.specs.Swept.{Judged, Swept}
 
 -- the slot at a place of the order
@@ -72,7 +73,7 @@ module _ {h₀ : Head} {f₀ : Fields} {nx₀ pv₀ st₀ cells₀ : List ℕ} {
   look = e.onward w.cache w.described
 
   -- the slot to look at holds an entry
-  pub sweep_occupied : 0 < left → Occupied h f nx pv st cells slot
+  pub sweep_occupied : 0 < left → Occupied (state_of h f nx pv st cells) slot
   sweep_occupied more =
       let o = look in
       record {
@@ -92,7 +93,7 @@ module _ {h₀ : Head} {f₀ : Fields} {nx₀ pv₀ st₀ cells₀ : List ℕ} {
 
   -- what comes next, whether the entry stays or goes
   pub sweep_step : (r : Head) (g : Fields) (nx' pv' st' cells' : List ℕ) (keep : Bool) → 0 < left → keep ≡ keeps q (entry_in f slot)
-      → Judged h f nx pv st cells r g nx' pv' st' cells' slot keep
+      → Judged (state_of h f nx pv st cells) (state_of r g nx' pv' st' cells') slot keep
       → Sweeping h₀ f₀ nx₀ pv₀ st₀ cells₀ q r g nx' pv' st' cells' (get_or nx slot 0) (left - 1)
   sweep_step r g nx' pv' st' cells' keep more is j = split keep stays goes
     where
@@ -109,7 +110,14 @@ module _ {h₀ : Head} {f₀ : Fields} {nx₀ pv₀ st₀ cells₀ : List ℕ} {
       stays : keep ≡ true → Sweeping h₀ f₀ nx₀ pv₀ st₀ cells₀ q r g nx' pv' st' cells' (get_or nx slot 0) (left - 1)
       stays t =
           let u = j.kept t in
-          rw (u.head, u.fields, u.nexts, u.prevs, u.stacks, u.table)
+          rw (
+            ap (λ (z : State). z.head) u,
+            ap (λ (z : State). z.fields) u,
+            ap (λ (z : State). z.nexts) u,
+            ap (λ (z : State). z.prevs) u,
+            ap (λ (z : State). z.stack) u,
+            ap (λ (z : State). z.cells) u,
+          )
           (record {
             tails = e.tails;
             onward = λ c d.
@@ -129,7 +137,7 @@ module _ {h₀ : Head} {f₀ : Fields} {nx₀ pv₀ st₀ cells₀ : List ℕ} {
             table = e.table;
           })
 
-      fewer_live : Dropped h f nx pv st cells r g nx' pv' st' cells' slot → r.live < h.live
+      fewer_live : Dropped (state_of h f nx pv st cells) (state_of r g nx' pv' st' cells') slot → r.live < h.live
       fewer_live p =
           let o = look in
           let at = there (after (moves.sweep q) w.cache) o in
@@ -159,7 +167,7 @@ module _ {h₀ : Head} {f₀ : Fields} {nx₀ pv₀ st₀ cells₀ : List ℕ} {
             table = λ z. absurd (omega (arith, e.fewer));
           }
 
-  pub sweep_end : left ≤ 0 → Swept h₀ f₀ nx₀ pv₀ st₀ cells₀ h f nx pv st cells q
+  pub sweep_end : left ≤ 0 → Swept (state_of h₀ f₀ nx₀ pv₀ st₀ cells₀) (state_of h f nx pv st cells) q
   sweep_end done = record {
     tails = e.tails;
     described = all;

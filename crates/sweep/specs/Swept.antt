@@ -1,9 +1,7 @@
 -- What a sweep leaves.
 -- Assumes nothing.
-use Rattle.std.specs.Prelude.{ℕ, Bool, true, false, List, [], ◌≡◌}
-use Rattle.head.specs.declared.Head.{Head}
+use Rattle.std.specs.Prelude.{ℕ, Bool, true, false, [], ◌≡◌}
 use Rattle.head.specs.declared.Rule.{Rule}
-use Rattle.head.specs.Fields.{Fields}
 use Rattle.model.specs.Lists.{marked, others}
 use Rattle.model.specs.Desk.{marks}
 use Rattle.model.specs.Moves.{sweep}

@@ -28,9 +28,10 @@ pub fn sweep(state: &mut State<'_>, rule: Rule)
 {
     let mut slot = state.head.front;
     for _ in 0..state.head.live {
-        let here = slot;
-        slot = list::after(state.links.next, here);
-        let row = state.fields.view().read(here.0);
-        judge(state, here, rules::keeps(rule, row));
+        // Read before the slot may leave, when its link is gone.
+        let behind = Slot(state.links.next[slot.0 as usize]);
+        let row = state.fields.view().read(slot.0);
+        judge(state, slot, rules::keeps(rule, row));
+        slot = behind;
     }
 }

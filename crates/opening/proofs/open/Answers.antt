@@ -1,19 +1,29 @@
 -- `opening::open` meets its contract.
 -- Assumes nothing.
-use mathlib.Core.Path.{refl, sym, ◌∙◌}
+use mathlib.Core.Path.{refl, sym, ap, ◌∙◌}
 use Rattle.head.specs.Fresh.{fresh_head}
-use Rattle.plan.specs.States.{state}
+use Rattle.state.specs.State.{lent}
+use Rattle.store.specs.Lengths.{spacious}
+use Rattle.opening.specs.Begun.{headed}
 use Rattle.opening.proofs.Beginning.{opens_not_allowed, opens_too_short, fresh_spacious, opens_fresh}
 use Rattle.opening.proofs.open.Goals as goal
+use Rattle.opening.proofs.open.Goals.{then-not-allows-via-then-not-allows, then-not-allows-via-else-not-allows+then-not-long_enough}
 
-pub returns-then-not-allows : goal.returns-then-not-allows
-returns-then-not-allows c = opens_not_allowed c.args.kind c.args.capacity c.args.slots (state (fresh_head c.args.kind c.args.capacity c.args.slots) c.args.codes.now c.args.stamps.now c.args.values.now c.args.weights.now c.args.next.now c.args.prev.now c.args.stack.now c.args.cells.now) c.allows.ensures (c.if-not-allows.true)
+pub returns-then-not-allows-clause-opens : goal.returns-then-not-allows-clause-opens
+returns-then-not-allows-clause-opens c =
+    elim c.then-not-allows.branch [
+      | then-not-allows-via-then-not-allows w ↦ opens_not_allowed _ _ _ _ c.allows.ensures w.if-not-allows.true
+      | then-not-allows-via-else-not-allows+then-not-long_enough w ↦ opens_too_short _ _ _ _ (w.long_enough.ensures ∙ ap (spacious c.args.slots) w.view.ensures) w.if-not-long_enough.true
+    ]
 
-pub returns-then-not-long_enough : goal.returns-then-not-long_enough
-returns-then-not-long_enough c = opens_too_short c.args.kind c.args.capacity c.args.slots (state (fresh_head c.args.kind c.args.capacity c.args.slots) c.args.codes.now c.args.stamps.now c.args.values.now c.args.weights.now c.args.next.now c.args.prev.now c.args.stack.now c.args.cells.now) c.long_enough.ensures (c.if-not-long_enough.true)
+pub empty-requires : goal.empty-requires
+empty-requires c =
+    fresh_spacious c.args.kind c.args.capacity c.args.slots (lent c.args.state.now) (sym c.allows.ensures ∙ c.if-not-allows.false)
+    (sym (c.long_enough.ensures ∙ ap (spacious c.args.slots) c.view.ensures) ∙ c.if-not-long_enough.false) c.fresh-state.ensures
 
-pub empty-head-requires : goal.empty-head-requires
-empty-head-requires c = fresh_spacious c.args.kind c.args.capacity c.args.slots (state (fresh_head c.args.kind c.args.capacity c.args.slots) c.args.codes.now c.args.stamps.now c.args.values.now c.args.weights.now c.args.next.now c.args.prev.now c.args.stack.now c.args.cells.now) (sym c.allows.ensures ∙ c.if-not-allows.false) (sym c.long_enough.ensures ∙ c.if-not-long_enough.false) c.fresh-fresh.ensures
-
-pub returns : goal.returns
-returns c = opens_fresh c.args.kind c.args.capacity c.args.slots (state (fresh_head c.args.kind c.args.capacity c.args.slots) c.args.codes.now c.args.stamps.now c.args.values.now c.args.weights.now c.args.next.now c.args.prev.now c.args.stack.now c.args.cells.now) (sym c.allows.ensures ∙ c.if-not-allows.false) (sym c.long_enough.ensures ∙ c.if-not-long_enough.false) (state (fresh_head c.args.kind c.args.capacity c.args.slots) c.empty-head.new.codes c.empty-head.new.stamps c.empty-head.new.values c.empty-head.new.weights c.empty-head.new.next c.empty-head.new.prev c.empty-head.new.stack c.empty-head.new.cells) c.fresh-fresh.ensures refl refl c.empty-head.ensures
+pub returns-clause-opens : goal.returns-clause-opens
+returns-clause-opens c =
+    let fresh = fresh_head c.args.kind c.args.capacity c.args.slots in
+    opens_fresh c.args.kind c.args.capacity c.args.slots (headed fresh (lent c.args.state.now)) (sym c.allows.ensures ∙ c.if-not-allows.false)
+    (sym (c.long_enough.ensures ∙ ap (spacious c.args.slots) c.view.ensures) ∙ c.if-not-long_enough.false)
+    (headed fresh (lent c.empty.new.state)) c.fresh-state.ensures refl refl c.empty.ensures.emptied

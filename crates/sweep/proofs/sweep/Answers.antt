@@ -1,36 +1,43 @@
--- `sweep::sweep` meets its contract. The measure is how many entries are still to look at.
+-- `sweep::sweep` meets its contract: a walk over the slots that were in the order.
 -- Assumes nothing.
-use mathlib.Core.Path.{ap, ◌∙◌}
+use Prim.Native.Nat.{◌+◌, ◌-◌}
+use mathlib.Core.Path.{◌≡◌, ap, ◌∙◌}
 use native.Mathlib.Omega.{arith}
 use Rattle.model.specs.Desk.{keeps}
+use Rattle.state.proofs.Same.{lists_stay, lists_then}
+use Rattle.head.specs.Fields.{Fields}
+use Rattle.store.specs.State.{entry_in}
 use Rattle.store.proofs.Writing.{occupied_writable}
 use Rattle.sweep.proofs.Looking.{sweep_start, sweep_linked, sweep_occupied, sweep_step, sweep_end}
 use Rattle.sweep.proofs.sweep.Goals as goal
 
-pub loop-left-init : goal.loop-left-init
-loop-left-init c = sweep_start _ _ _ _ _ _ _
+pub loop-init : goal.loop-init
+loop-init c =
+    let z : c.args.state.now.head.live - 0 ≡ c.args.state.now.head.live = omega arith in
+    (lists_stay, rw z (sweep_start _ _ _ _ _ _ _))
 
-pub after-slot-requires : goal.after-slot-requires
-after-slot-requires c = sweep_linked c.requires c.loop-left.invariant c.loop-left-test.true
+pub bounds-state-slot : goal.bounds-state-slot
+bounds-state-slot c = sweep_linked c.requires c.loop.invariant.1 (omega arith)
 
-pub row_at-row-requires : goal.row_at-row-requires
-row_at-row-requires c = occupied_writable (sweep_occupied c.requires c.loop-left.invariant c.loop-left-test.true)
+pub read-row-requires : goal.read-row-requires
+read-row-requires c = rw c.view.ensures (occupied_writable (sweep_occupied c.requires c.loop.invariant.1 (omega arith)))
 
-pub judge-h-requires : goal.judge-h-requires
-judge-h-requires c = sweep_occupied c.requires c.loop-left.invariant c.loop-left-test.true
+pub judge-requires : goal.judge-requires
+judge-requires c = sweep_occupied c.requires c.loop.invariant.1 (omega arith)
 
-pub overflow_sub-left : goal.overflow_sub-left
-overflow_sub-left c = omega (arith, c.loop-left-test.true)
+pub loop-preserved : goal.loop-preserved
+loop-preserved c =
+    let live = c.args.state.now.head.live in
+    let z : live - (c.loop.counter + 1) ≡ live - c.loop.counter - 1 = omega arith in (
+      lists_then c.loop.invariant.0 c.judge.ensures.lists,
+      rw z
+          (sweep_step c.requires c.loop.invariant.1 _ _ _ _ _ _ _ (omega arith)
+          (c.keeps.ensures ∙ ap (keeps c.args.rule) (c.read-row.ensures ∙ ap (λ (f : Fields). entry_in f c.loop.slot.0) c.view.ensures))
+          c.judge.ensures.judged),
+    )
 
-pub loop-left-smaller : goal.loop-left-smaller
-loop-left-smaller c = omega (arith, c.loop-left-test.true)
+pub returns-clause-lists : goal.returns-clause-lists
+returns-clause-lists c = c.loop.invariant.0
 
-pub loop-left-preserved : goal.loop-left-preserved
-loop-left-preserved c =
-    rw c.after-slot.ensures
-    (sweep_step c.requires c.loop-left.invariant _ _ _ _ _ _ _ c.loop-left-test.true
-    (c.keeps-keep.ensures ∙ ap (keeps c.args.rule) c.row_at-row.ensures)
-    c.judge-h.ensures)
-
-pub returns : goal.returns
-returns c = sweep_end c.requires c.loop-left.invariant c.loop-left-test.false
+pub returns-clause-swept : goal.returns-clause-swept
+returns-clause-swept c = sweep_end c.requires c.loop.invariant.1 (omega arith)

@@ -1,11 +1,13 @@
--- `sweep::sweep` meets its contract. The measure is how many entries are still to look at.
+-- `sweep::sweep` meets its contract: a walk over the slots that were in the order.
 -- Assumes nothing.
-use Rattle.store.specs.State.{fields}
+use Prim.Native.Nat.{◌-◌}
+use Rattle.state.specs.State.{lent, SameLists}
 use Rattle.sweep.proofs.Looking.{Sweeping}
 use Rattle.sweep.proofs.sweep.Given as goal
 
-abbrev pub invariant-loop-left : goal.invariant-loop-left
-invariant-loop-left l = Sweeping l.initial.h (fields l.initial.codes l.initial.stamps l.initial.values l.initial.weights) l.initial.next l.initial.prev l.initial.stack l.initial.cells l.rule l.h (fields l.codes l.stamps l.values l.weights) l.next l.prev l.stack l.cells l.slot.0 l.left
-
-abbrev pub decreases-loop-left : goal.decreases-loop-left
-decreases-loop-left l = l.left
+abbrev pub invariant-loop : goal.invariant-loop
+invariant-loop l =
+    let s = lent l.initial.state in
+    let t = lent l.state in
+    SameLists l.initial.state l.state
+    × Sweeping s.head s.fields s.nexts s.prevs s.stack s.cells l.rule t.head t.fields t.nexts t.prevs t.stack t.cells l.slot.0 (s.head.live - l.counter)
