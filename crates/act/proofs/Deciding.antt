@@ -4,7 +4,6 @@ use Prim.Native.Nat.{ℕ}
 use mathlib.Core.Bool.{false, true≢false}
 use mathlib.Core.List.{List}
 use mathlib.Core.Path.{◌≡◌, refl, sym, ◌∙◌, subst}
-use Rattle.head.specs.declared.Head.{Head}
 use Rattle.head.specs.Fields.{Fields}
 use Rattle.model.specs.Desk.{Desk}
 use Rattle.model.specs.Moves.{stay}
@@ -16,10 +15,6 @@ use Rattle.plan.specs.declared.Plan.{Plan}
 use Rattle.plan.specs.States.{State, Means, TailsKept}
 use Rattle.plan.specs.Plans.{move_of, Ready, cells_stay}
 use Rattle.act.specs.Acted.{Prepared, Acted}
-
--- a head, fields, links, stack and cells as a state
-abbrev pub packed : Head → Fields → List ℕ → List ℕ → List ℕ → List ℕ → State
-packed h f nx pv st cells = record { head = h; fields = f; nexts = nx; prevs = pv; stack = st; cells = cells }
 
 -- a cache that is ready for the plan is ready for the constructor that the plan is
 pub needed : {p : Plan} {s : State} (q : Plan) → p ≡ q → Prepared p s → Prepared q s

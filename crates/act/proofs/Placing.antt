@@ -22,7 +22,7 @@ use Rattle.plan.specs.declared.Plan.TheVariants.{Place, Replace, Fit}
 use Rattle.plan.specs.Plans.{place_of, Ready}
 use Rattle.act.specs.Acted.{Prepared, Acted}
 use Rattle.state.specs.State.{state_of}
-use Rattle.act.proofs.Deciding.{packed, acted, tails_then}
+use Rattle.act.proofs.Deciding.{acted, tails_then}
 
 -- what fits does so whatever entries are held
 takes_held : {d : Desk} {e : Row} (held es : List Row) → Takes d e es → Takes (holding d held) e es
@@ -36,7 +36,7 @@ shed_slots o q = (q.described o.cache o.some o.described).room ∙ sym o.describ
 
 -- ---- so many leave, then a row comes
 
-module _ {h : Head} {f : Fields} {nx pv st cells : List ℕ} {k : ℕ} {e : Row} (p : Prepared (Place k e) (packed h f nx pv st cells)) where
+module _ {h : Head} {f : Fields} {nx pv st cells : List ℕ} {k : ℕ} {e : Row} (p : Prepared (Place k e) (state_of h f nx pv st cells)) where
   -- there are as many to leave as the plan says
   pub place_rich : Rich (state_of h f nx pv st cells) k
   place_rich = record { cache = p.cache; described = p.means; some = p.ready.named }
@@ -54,7 +54,7 @@ module _ {h : Head} {f : Fields} {nx pv st cells : List ℕ} {k : ℕ} {e : Row}
         }
 
     pub place_acted : {r₂ : Head} {g₂ : Fields} {nx₂ pv₂ st₂ cells₂ : List ℕ} → Added (state_of r g nx' pv' st' cells') (state_of r₂ g₂ nx₂ pv₂ st₂ cells₂) e
-        → Acted (Place k e) (packed h f nx pv st cells) (packed r₂ g₂ nx₂ pv₂ st₂ cells₂)
+        → Acted (Place k e) (state_of h f nx pv st cells) (state_of r₂ g₂ nx₂ pv₂ st₂ cells₂)
     place_acted a =
         acted (Place k e) (λ o d. refl)
         (tails_then (shed_slots place_rich q) q.tails a.tails)
@@ -64,7 +64,7 @@ module _ {h : Head} {f : Fields} {nx pv st cells : List ℕ} {k : ℕ} {e : Row}
 
 -- ---- so many leave, then the capacity is set
 
-module _ {h : Head} {f : Fields} {nx pv st cells : List ℕ} {k n : ℕ} (p : Prepared (Fit k n) (packed h f nx pv st cells)) where
+module _ {h : Head} {f : Fields} {nx pv st cells : List ℕ} {k n : ℕ} (p : Prepared (Fit k n) (state_of h f nx pv st cells)) where
   pub fit_rich : Rich (state_of h f nx pv st cells) k
   fit_rich = record { cache = p.cache; described = p.means; some = p.ready.named }
 
@@ -79,7 +79,7 @@ module _ {h : Head} {f : Fields} {nx pv st cells : List ℕ} {k n : ℕ} (p : Pr
     }
 
     pub fit_acted : {r₂ : Head} {g₂ : Fields} {nx₂ pv₂ st₂ cells₂ : List ℕ} → Capped (state_of r g nx' pv' st' cells') (state_of r₂ g₂ nx₂ pv₂ st₂ cells₂) n
-        → Acted (Fit k n) (packed h f nx pv st cells) (packed r₂ g₂ nx₂ pv₂ st₂ cells₂)
+        → Acted (Fit k n) (state_of h f nx pv st cells) (state_of r₂ g₂ nx₂ pv₂ st₂ cells₂)
     fit_acted a =
         record {
           tails = tails_then (shed_slots fit_rich q) q.tails a.tails;
@@ -103,7 +103,7 @@ replace_ready s k e c r =
       apart = r.apart;
     }
 
-module _ {h : Head} {f : Fields} {nx pv st cells : List ℕ} {s : Slot} {k : ℕ} {e : Row} (p : Prepared (Replace s k e) (packed h f nx pv st cells)) where
+module _ {h : Head} {f : Fields} {nx pv st cells : List ℕ} {s : Slot} {k : ℕ} {e : Row} (p : Prepared (Replace s k e) (state_of h f nx pv st cells)) where
   -- the slot that the plan names is occupied
   pub replace_occupied : Occupied (state_of h f nx pv st cells) s.0
   replace_occupied = record {
@@ -115,7 +115,7 @@ module _ {h : Head} {f : Fields} {nx pv st cells : List ℕ} {s : Slot} {k : ℕ
 
   module _ {r : Head} {g : Fields} {nx' pv' st' cells' : List ℕ} (q : Dropped (state_of h f nx pv st cells) (state_of r g nx' pv' st' cells') s.0) where
     -- the state after that is ready for a placement
-    pub replace_prepared : Prepared (Place k e) (packed r g nx' pv' st' cells')
+    pub replace_prepared : Prepared (Place k e) (state_of r g nx' pv' st' cells')
     replace_prepared =
         let i : ℕ = place_of s.0 p.cache.slots.order in
         record {
@@ -125,8 +125,8 @@ module _ {h : Head} {f : Fields} {nx pv st cells : List ℕ} {s : Slot} {k : ℕ
         }
 
     pub replace_acted : {r₂ : Head} {g₂ : Fields} {nx₂ pv₂ st₂ cells₂ : List ℕ}
-        → Acted (Place k e) (packed r g nx' pv' st' cells') (packed r₂ g₂ nx₂ pv₂ st₂ cells₂)
-        → Acted (Replace s k e) (packed h f nx pv st cells) (packed r₂ g₂ nx₂ pv₂ st₂ cells₂)
+        → Acted (Place k e) (state_of r g nx' pv' st' cells') (state_of r₂ g₂ nx₂ pv₂ st₂ cells₂)
+        → Acted (Replace s k e) (state_of h f nx pv st cells) (state_of r₂ g₂ nx₂ pv₂ st₂ cells₂)
     unfolding replace_prepared
     replace_acted a =
         acted (Replace s k e) (λ o d. refl)

@@ -29,7 +29,7 @@ use Rattle.plan.specs.declared.Plan.TheVariants.{Raise, Set, Renew, Drop, Sweep,
 use Rattle.plan.specs.Plans.{place_of, Stands}
 use Rattle.act.specs.Acted.{Prepared, Acted}
 use Rattle.state.specs.State.{state_of}
-use Rattle.act.proofs.Deciding.{packed, acted, acted_beside}
+use Rattle.act.proofs.Deciding.{acted, acted_beside}
 
 -- the fields with other values
 abbrev pub revalued : Fields → List ℕ → Fields
@@ -76,23 +76,24 @@ module _ {h : Head} {f : Fields} {nx pv st cells : List ℕ} where
 
   -- ---- an entry moves to the front
 
-  pub raise_room : {s : Slot} → Prepared (Raise s) (packed h f nx pv st cells) → Room h nx pv s.0
+  pub raise_room : {s : Slot} → Prepared (Raise s) (state_of h f nx pv st cells) → Room h nx pv s.0
   raise_room {s} p = occupied_room (standing s p.ready.named p.means)
 
-  pub raise_acted : {s : Slot} {r : Head} {nx' pv' : List ℕ} → Moved h r nx pv nx' pv' s.0
-      → Acted (Raise s) (packed h f nx pv st cells) (packed r f nx' pv' st cells)
-  raise_acted {s} {r} {nx'} {pv'} m =
-      acted_beside (Raise s) refl
+  pub raise_acted : {s : Slot} {r : Head} {nx' pv' st' : List ℕ} → Moved h r nx pv nx' pv' s.0 → st' ≡ st
+      → Acted (Raise s) (state_of h f nx pv st cells) (state_of r f nx' pv' st' cells)
+  raise_acted {s} {r} {nx'} {pv'} m same =
+      rw same
+      (acted_beside (Raise s) refl
       (tails_beside (same_tail f.values) m.next_tail m.prev_tail)
-      (λ c ready d. raise_described d r nx' pv' (place_of s.0 c.slots.order) s.0 ready.named m)
+      (λ c ready d. raise_described d r nx' pv' (place_of s.0 c.slots.order) s.0 ready.named m))
 
   -- ---- an entry takes a value
 
-  pub set_room : {s : Slot} {v : ℕ} → Prepared (Set s v) (packed h f nx pv st cells) → s.0 < length f.values
+  pub set_room : {s : Slot} {v : ℕ} → Prepared (Set s v) (state_of h f nx pv st cells) → s.0 < length f.values
   set_room {s} p = (occupied_writable (standing s p.ready.named p.means)).values
 
-  pub set_acted : {s : Slot} {v : ℕ} {values : List ℕ} → Prepared (Set s v) (packed h f nx pv st cells) → values ≡ set f.values s.0 v
-      → Acted (Set s v) (packed h f nx pv st cells) (packed h (revalued f values) nx pv st cells)
+  pub set_acted : {s : Slot} {v : ℕ} {values : List ℕ} → Prepared (Set s v) (state_of h f nx pv st cells) → values ≡ set f.values s.0 v
+      → Acted (Set s v) (state_of h f nx pv st cells) (state_of h (revalued f values) nx pv st cells)
   set_acted {s} {v} {values} p e =
       acted_beside (Set s v) refl
       (tails_beside (value_tail v (occupied_in (standing s p.ready.named p.means)) e) (same_tail nx) (same_tail pv))
@@ -100,31 +101,33 @@ module _ {h : Head} {f : Fields} {nx pv st cells : List ℕ} where
 
   -- ---- an entry takes a value and moves to the front
 
-  pub renew_value : {s : Slot} {v : ℕ} → Prepared (Renew s v) (packed h f nx pv st cells) → s.0 < length f.values
+  pub renew_value : {s : Slot} {v : ℕ} → Prepared (Renew s v) (state_of h f nx pv st cells) → s.0 < length f.values
   renew_value {s} p = (occupied_writable (standing s p.ready.named p.means)).values
 
-  pub renew_room : {s : Slot} {v : ℕ} → Prepared (Renew s v) (packed h f nx pv st cells) → Room h nx pv s.0
+  pub renew_room : {s : Slot} {v : ℕ} → Prepared (Renew s v) (state_of h f nx pv st cells) → Room h nx pv s.0
   renew_room {s} p = occupied_room (standing s p.ready.named p.means)
 
-  pub renew_acted : {s : Slot} {v : ℕ} {values : List ℕ} {r : Head} {nx' pv' : List ℕ} → Prepared (Renew s v) (packed h f nx pv st cells)
+  pub renew_acted : {s : Slot} {v : ℕ} {values : List ℕ} {r : Head} {nx' pv' st' : List ℕ} → Prepared (Renew s v) (state_of h f nx pv st cells)
       → values ≡ set f.values s.0 v
       → Moved h r nx pv nx' pv' s.0
-      → Acted (Renew s v) (packed h f nx pv st cells) (packed r (revalued f values) nx' pv' st cells)
-  renew_acted {s} {v} {values} {r} {nx'} {pv'} p e m =
-      acted_beside (Renew s v) refl
+      → st' ≡ st
+      → Acted (Renew s v) (state_of h f nx pv st cells) (state_of r (revalued f values) nx' pv' st' cells)
+  renew_acted {s} {v} {values} {r} {nx'} {pv'} p e m same =
+      rw same
+      (acted_beside (Renew s v) refl
       (tails_beside (value_tail v (occupied_in (standing s p.ready.named p.means)) e) m.next_tail m.prev_tail)
       (λ c ready d.
       let i : ℕ = place_of s.0 c.slots.order in
-      raise_described (value_described d i s.0 v values ready.named e) r nx' pv' i s.0 ready.named m)
+      raise_described (value_described d i s.0 v values ready.named e) r nx' pv' i s.0 ready.named m))
 
   -- ---- an entry leaves
 
-  pub drop_occupied : {s : Slot} → Prepared (Drop s) (packed h f nx pv st cells) → Occupied (state_of h f nx pv st cells) s.0
+  pub drop_occupied : {s : Slot} → Prepared (Drop s) (state_of h f nx pv st cells) → Occupied (state_of h f nx pv st cells) s.0
   drop_occupied {s} p = standing s p.ready.named p.means
 
   module _ {r : Head} {g : Fields} {nx' pv' st' cells' : List ℕ} where
     pub drop_acted : {s : Slot} → Dropped (state_of h f nx pv st cells) (state_of r g nx' pv' st' cells') s.0
-        → Acted (Drop s) (packed h f nx pv st cells) (packed r g nx' pv' st' cells')
+        → Acted (Drop s) (state_of h f nx pv st cells) (state_of r g nx' pv' st' cells')
     drop_acted {s} q =
         acted (Drop s) (λ o d. refl) q.tails
         (λ c ready d. q.described c (place_of s.0 c.slots.order) ready.named d)
@@ -132,7 +135,7 @@ module _ {h : Head} {f : Fields} {nx pv st cells : List ℕ} where
     -- ---- a sweep
 
     pub sweep_acted : {q : Rule} → Swept (state_of h f nx pv st cells) (state_of r g nx' pv' st' cells') q
-        → Acted (Sweep q) (packed h f nx pv st cells) (packed r g nx' pv' st' cells')
+        → Acted (Sweep q) (state_of h f nx pv st cells) (state_of r g nx' pv' st' cells')
     sweep_acted {q} w = record {
       tails = w.tails;
       cells = λ c ready d e. w.table c (emptied (marked (others (marks q c.desk.entries)) c.desk.entries) e) d;
@@ -141,11 +144,11 @@ module _ {h : Head} {f : Fields} {nx pv st cells : List ℕ} where
 
     -- ---- all leave
 
-    pub clear_acted : Emptied (state_of h f nx pv st cells) (state_of r g nx' pv' st' cells') → Acted Clear (packed h f nx pv st cells) (packed r g nx' pv' st' cells')
+    pub clear_acted : Emptied (state_of h f nx pv st cells) (state_of r g nx' pv' st' cells') → Acted Clear (state_of h f nx pv st cells) (state_of r g nx' pv' st' cells')
     clear_acted w = acted Clear (λ o d. refl) w.tails (λ c ready d. clear_described d r g nx' pv' st' cells' w)
 
-  pub sweep_whole : {q : Rule} → Prepared (Sweep q) (packed h f nx pv st cells) → Whole h f nx pv st cells
+  pub sweep_whole : {q : Rule} → Prepared (Sweep q) (state_of h f nx pv st cells) → Whole h f nx pv st cells
   sweep_whole p = record { cache = p.cache; described = p.means }
 
-  pub clear_spacious : Prepared Clear (packed h f nx pv st cells) → Spacious (state_of h f nx pv st cells)
+  pub clear_spacious : Prepared Clear (state_of h f nx pv st cells) → Spacious (state_of h f nx pv st cells)
   clear_spacious p = described_spacious p.means

@@ -1,5 +1,6 @@
 -- `act::hand_out` meets its contract: in each arm the plan is known, and what is written is what it hands out.
 -- Assumes nothing.
+use mathlib.Core.Logic.{⊎_elim}
 use mathlib.Core.Path.{refl}
 use Rattle.act.proofs.Handing.{offered, no_rows, all_handed, back_handed, place_handed, replace_handed, fit_handed, sweep_handed, all_offered, back_offered, place_offered, replace_offered, fit_offered, sweep_offered}
 use Rattle.act.proofs.hand_out.Goals as goal
@@ -22,38 +23,28 @@ write_oldest-requires-in-Fit c = fit_offered (offered _ c.in-Fit.is c.requires)
 pub write_removed-requires : goal.write_removed-requires
 write_removed-requires c = sweep_offered (offered _ c.in-Sweep.is c.requires)
 
-pub returns-in-Stay : goal.returns-in-Stay
-returns-in-Stay c = no_rows _ c.in-Stay.is (λ k. refl)
+pub returns-in-Stay-clause-handed : goal.returns-in-Stay-clause-handed
+returns-in-Stay-clause-handed c =
+    ⊎_elim (λ e. no_rows _ e (λ k. refl))
+    (⊎_elim (λ w. no_rows _ w.1 (λ k. refl))
+    (⊎_elim (λ w. no_rows _ w.2 (λ k. refl))
+    (⊎_elim (λ w. no_rows _ w.2 (λ k. refl)) (⊎_elim (λ w. no_rows _ w.1 (λ k. refl)) (λ e. no_rows _ e (λ k. refl))))))
+    c.in-Stay.is
 
-pub returns-in-Raise : goal.returns-in-Raise
-returns-in-Raise c = no_rows _ c.in-Raise.is (λ k. refl)
+pub returns-in-List-clause-handed : goal.returns-in-List-clause-handed
+returns-in-List-clause-handed c = all_handed c.in-List.is c.write_all.ensures.wrote
 
-pub returns-in-Set : goal.returns-in-Set
-returns-in-Set c = no_rows _ c.in-Set.is (λ k. refl)
+pub returns-in-ListBack-clause-handed : goal.returns-in-ListBack-clause-handed
+returns-in-ListBack-clause-handed c = back_handed c.in-ListBack.is c.write_all_back.ensures.wrote
 
-pub returns-in-Renew : goal.returns-in-Renew
-returns-in-Renew c = no_rows _ c.in-Renew.is (λ k. refl)
+pub returns-in-Place-clause-handed : goal.returns-in-Place-clause-handed
+returns-in-Place-clause-handed c = place_handed c.in-Place.is c.write_oldest.ensures.wrote
 
-pub returns-in-Drop : goal.returns-in-Drop
-returns-in-Drop c = no_rows _ c.in-Drop.is (λ k. refl)
+pub returns-in-Replace-clause-handed : goal.returns-in-Replace-clause-handed
+returns-in-Replace-clause-handed c = replace_handed c.in-Replace.is c.write_oldest-in-Replace.ensures.wrote
 
-pub returns-in-Clear : goal.returns-in-Clear
-returns-in-Clear c = no_rows _ c.in-Clear.is (λ k. refl)
+pub returns-in-Fit-clause-handed : goal.returns-in-Fit-clause-handed
+returns-in-Fit-clause-handed c = fit_handed c.in-Fit.is c.write_oldest-in-Fit.ensures.wrote
 
-pub returns-in-List : goal.returns-in-List
-returns-in-List c = all_handed c.in-List.is c.write_all.ensures
-
-pub returns-in-ListBack : goal.returns-in-ListBack
-returns-in-ListBack c = back_handed c.in-ListBack.is c.write_all_back.ensures
-
-pub returns-in-Place : goal.returns-in-Place
-returns-in-Place c = place_handed c.in-Place.is c.write_oldest.ensures
-
-pub returns-in-Replace : goal.returns-in-Replace
-returns-in-Replace c = replace_handed c.in-Replace.is c.write_oldest-in-Replace.ensures
-
-pub returns-in-Fit : goal.returns-in-Fit
-returns-in-Fit c = fit_handed c.in-Fit.is c.write_oldest-in-Fit.ensures
-
-pub returns-in-Sweep : goal.returns-in-Sweep
-returns-in-Sweep c = sweep_handed c.in-Sweep.is c.write_removed.ensures
+pub returns-in-Sweep-clause-handed : goal.returns-in-Sweep-clause-handed
+returns-in-Sweep-clause-handed c = sweep_handed c.in-Sweep.is c.write_removed.ensures.wrote
