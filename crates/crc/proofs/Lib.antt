@@ -3,3 +3,4 @@ pub mod Xor
 pub mod Shifts
 pub mod Published
 pub mod Homes
+pub mod Bytes

@@ -3,7 +3,7 @@
 use mathlib.Core.Path.{◌≡◌, refl, sym, ap, ap₂, ◌∙◌}
 use mathlib.Core.Bool.{cond}
 use mathlib.Core.List.{List}
-use Prim.Native.Nat.{ℕ, zero, suc, ◌+◌, ◌*◌, ◌/◌, ◌%◌, ◌^◌, ◌-◌, ◌<◌, ◌≤◌}
+use Prim.Native.Nat.{ℕ, zero, suc, ◌+◌, ◌*◌, ◌/◌, ◌%◌, ◌^◌, ◌<◌, ◌≤◌}
 use native.Mathlib.Nat.{mod-lt, div-add-mod', pow-suc, mul_assoc, zero-add, suc-add}
 use native.Mathlib.Omega.{arith}
 use lib.Dec.{eqb}
@@ -12,7 +12,7 @@ use lib.ListN.{length, get_or, drop, drop_of_length-le}
 use lib.Seq.{drop-cons}
 use lib.Pow.{pow_pos}
 use native.Mathlib.Numerals.{add-one}
-use Rattle.crc.specs.Crc.{polynomial, shift, shifts, with_byte, with_bytes, bytes}
+use Rattle.crc.specs.Crc.{polynomial, shift, shifts, with_byte, with_bytes}
 use Rattle.crc.proofs.Xor.{xor_half, xor_odd, xor_middle}
 
 -- what a shift takes in, by the bit that falls out
@@ -78,23 +78,6 @@ shifts_add zero k x = ap (λ (n : ℕ). shifts n x) (zero-add k)
 shifts_add (suc j) k x = ap (λ (n : ℕ). shifts n x) (suc-add j k) ∙ shifts_add j k (shift x)
 
 -- ---- byte by byte
-
--- the next of the eight bytes of a code is taken in
-pub next_byte : (c x : ℕ) {c' y : ℕ} (i : ℕ) → i < 8 → c' ≡ with_byte c y → y ≡ x % 256 → with_bytes c' (bytes (8 - (i + 1)) (x / 256)) ≡ with_bytes c (bytes (8 - i) x)
-unfolding with_bytes bytes
-next_byte c x {c'} {y} i h p q =
-    ap (λ (k : ℕ). with_bytes k (bytes (8 - (i + 1)) (x / 256))) (p ∙ ap (with_byte c) q)
-    ∙ ap (λ (k : ℕ). with_bytes c (bytes k x)) n
-  where
-    n : suc (8 - (i + 1)) ≡ 8 - i
-    n = omega arith
-
-pub last_byte : (c x i : ℕ) → 8 ≤ i → with_bytes c (bytes (8 - i) x) ≡ c
-unfolding with_bytes bytes
-last_byte c x i h = ap (λ (k : ℕ). with_bytes c (bytes k x)) n
-  where
-    n : 8 - i ≡ 0
-    n = omega arith
 
 pub next_of : (s : List ℕ) (c : ℕ) {c' : ℕ} (i : ℕ) → i < length s → c' ≡ with_byte c (get_or s i 0) → with_bytes c' (drop (i + 1) s) ≡ with_bytes c (drop i s)
 unfolding with_bytes

@@ -7,7 +7,7 @@ ghost use Rattle.crc.specs.Home.{Cells, home_of};
 
 use head::Code;
 
-// Entry k is k after four shifts.
+// Entry k is k after four shifts. 01 asks for a const array of sixteen u32.
 const TABLE: [u32; 16] = [
     0x00000000, 0x1DB71064, 0x3B6E20C8, 0x26D930AC, 0x76DC4190, 0x6B6B51F4, 0x4DB26158, 0x5005713C,
     0xEDB88320, 0xF00F9344, 0xD6D6A3E8, 0xCB61B38C, 0x9B64C2B0, 0x86D3D2D4, 0xA00AE278, 0xBDBDF21C,
@@ -25,7 +25,7 @@ fn half(x: u32) -> u32
 fn byte(c: u32, b: u8) -> u32
     ensures { result ≡ with_byte c b }
 {
-    half(half(c ^ (b as u32)))
+    half(half(c ^ u32::from(b)))
 }
 
 // The CRC-32 of some bytes.
@@ -33,10 +33,8 @@ pub fn of_bytes(s: &[u8]) -> u32
     ensures { result ≡ crc_of s.now }
 {
     let mut sum: u32 = 0xFFFFFFFF;
-    let mut i = 0;
-    while i < s.len() {
-        sum = byte(sum, s[i]);
-        i += 1;
+    for b in s {
+        sum = byte(sum, *b);
     }
     sum ^ 0xFFFFFFFF
 }
@@ -45,15 +43,7 @@ pub fn of_bytes(s: &[u8]) -> u32
 pub fn crc32(code: Code) -> u32
     ensures { result ≡ crc_of (bytes 8 code.0) }
 {
-    let mut c: u32 = 0xFFFFFFFF;
-    let mut x = code.0;
-    let mut i: usize = 0;
-    while i < 8 {
-        c = byte(c, (x & 255) as u8);
-        x = x >> 8;
-        i += 1;
-    }
-    c ^ 0xFFFFFFFF
+    of_bytes(&code.0.to_le_bytes())
 }
 
 // The home cell of a code among the 2n cells of a table.

@@ -10,21 +10,21 @@ ghost use Rattle.head.specs.Refusals.{number_of};
 ghost use Rattle.head.specs.Rules.{code_rule, value_rule, stamp_rule, weight_rule, rule_of};
 
 // The number of a slot, or one of the marks NONE and UNUSED of `Head`.
-#[derive(Clone, Copy)]
+#[derive(Debug, Clone, Copy, PartialEq, Eq)]
 pub struct Slot(pub u32);
 
 // What a key is compared by.
-#[derive(Clone, Copy)]
+#[derive(Debug, Clone, Copy, PartialEq, Eq)]
 pub struct Code(pub u64);
 
 // A place in the free stack, counted from its bottom.
-#[derive(Clone, Copy)]
+#[derive(Debug, Clone, Copy, PartialEq, Eq)]
 pub struct Place(pub u32);
 
 // The numbers of a cache that stand beside its lists. A caller lends it, so any of them may be damaged, the kind too.
-#[derive(Clone, Copy)]
+#[derive(Debug, Clone, Copy, PartialEq, Eq)]
 pub struct Head {
-    // PLAIN or WEIGHED.
+    // PLAIN or WEIGHED, as a number: 01 has refusals for any other that is lent.
     pub kind: u32,
     pub capacity: u64,
     // How many slots the lists have, N.
@@ -58,19 +58,9 @@ impl Head {
     pub fn allows(kind: u32, capacity: u64, slots: u32) -> bool
         ensures { result ≡ allowed kind capacity slots }
     {
-        if Head::WEIGHED < kind {
-            return false;
-        }
-        if capacity == 0 {
-            return false;
-        }
-        if Head::MOST_CAPACITY < capacity {
-            return false;
-        }
-        if slots == 0 {
-            return false;
-        }
-        slots <= Head::MOST_SLOTS
+        matches!(kind, Head::PLAIN | Head::WEIGHED)
+            && (1..=Head::MOST_CAPACITY).contains(&capacity)
+            && (1..=Head::MOST_SLOTS).contains(&slots)
     }
 
     // The head of a cache that holds nothing yet.
@@ -90,23 +80,21 @@ impl Head {
         }
     }
 
-    pub fn with_weight(mut self, weight: u64) -> Head
+    pub fn with_weight(self, weight: u64) -> Head
         ensures { result ≡ reweighed weight self }
     {
-        self.weight = weight;
-        self
+        Head { weight, ..self }
     }
 
-    pub fn with_capacity(mut self, capacity: u64) -> Head
+    pub fn with_capacity(self, capacity: u64) -> Head
         ensures { result ≡ recapped capacity self }
     {
-        self.capacity = capacity;
-        self
+        Head { capacity, ..self }
     }
 }
 
 // An entry, as it is stored and as it is handed out.
-#[derive(Clone, Copy)]
+#[derive(Debug, Clone, Copy, PartialEq, Eq)]
 pub struct Row {
     pub code: Code,
     pub stamp: u32,
@@ -114,10 +102,11 @@ pub struct Row {
     pub weight: u64,
 }
 
-// Which entries `retain` keeps. The number comes from outside, so it may name no rule.
-#[derive(Clone, Copy)]
+// Which entries `retain` keeps.
+#[derive(Debug, Clone, Copy, PartialEq, Eq)]
 pub struct Rule {
     // CODE and VALUE: from low to high, both included. STAMP: at least low. WEIGHT: at most high. The other bound is not read.
+    // A number, for it comes from outside and may name no rule: 01 has a refusal for that.
     pub number: u32,
     // Keep those that fail the rule instead.
     pub not: bool,
@@ -134,48 +123,39 @@ impl Rule {
 
     pub const WEIGHT: u32 = 3;
 
-    pub fn code(low: Code, high: Code) -> Rule
-        ensures { result ≡ rule_of code_rule low.0 high.0 }
+    fn new(number: u32, low: u64, high: u64) -> Rule
+        ensures { result ≡ rule_of number low high }
     {
         Rule {
-            number: Rule::CODE,
-            not: false,
-            low: low.0,
-            high: high.0,
-        }
-    }
-
-    pub fn value(low: u64, high: u64) -> Rule
-        ensures { result ≡ rule_of value_rule low high }
-    {
-        Rule {
-            number: Rule::VALUE,
+            number,
             not: false,
             low,
             high,
         }
     }
 
+    pub fn code(low: Code, high: Code) -> Rule
+        ensures { result ≡ rule_of code_rule low.0 high.0 }
+    {
+        Rule::new(Rule::CODE, low.0, high.0)
+    }
+
+    pub fn value(low: u64, high: u64) -> Rule
+        ensures { result ≡ rule_of value_rule low high }
+    {
+        Rule::new(Rule::VALUE, low, high)
+    }
+
     pub fn stamp(least: u32) -> Rule
         ensures { result ≡ rule_of stamp_rule least 0 }
     {
-        Rule {
-            number: Rule::STAMP,
-            not: false,
-            low: least as u64,
-            high: 0,
-        }
+        Rule::new(Rule::STAMP, u64::from(least), 0)
     }
 
     pub fn weight(most: u64) -> Rule
         ensures { result ≡ rule_of weight_rule 0 most }
     {
-        Rule {
-            number: Rule::WEIGHT,
-            not: false,
-            low: 0,
-            high: most,
-        }
+        Rule::new(Rule::WEIGHT, 0, most)
     }
 
     // The rule that keeps what this one does not.
@@ -183,16 +163,14 @@ impl Rule {
         ensures { result ≡ record { number = self.number; not = not self.not; low = self.low; high = self.high } }
     {
         Rule {
-            number: self.number,
             not: !self.not,
-            low: self.low,
-            high: self.high,
+            ..self
         }
     }
 }
 
 // A call after opening, with its numbers.
-#[derive(Clone, Copy)]
+#[derive(Debug, Clone, Copy, PartialEq, Eq)]
 pub enum Command {
     Len,
     Capacity,
@@ -249,7 +227,7 @@ pub enum Command {
 }
 
 // Which of four promises a call has, by what it does with what it is lent.
-#[derive(Clone, Copy)]
+#[derive(Debug, Clone, Copy, PartialEq, Eq)]
 pub enum Form {
     // Reads, and hands out no row.
     Reading,
@@ -266,56 +244,37 @@ impl Command {
         ensures { result ≡ form_of self }
     {
         match self {
-            Command::Len => Form::Reading,
-            Command::Capacity => Form::Reading,
-            Command::Weight => Form::Reading,
-            Command::IsEmpty => Form::Reading,
-            Command::IsFull => Form::Reading,
-            Command::Front => Form::Reading,
-            Command::Back => Form::Reading,
-            Command::Peek(_) => Form::Reading,
-            Command::Contains(_) => Form::Reading,
-            Command::List => Form::Listing,
-            Command::ListBack => Form::Listing,
-            Command::Get(_) => Form::Acting,
-            Command::Pop(_) => Form::Acting,
-            Command::PopFront => Form::Acting,
-            Command::PopBack => Form::Acting,
-            Command::Clear => Form::Acting,
-            Command::GetMut { code: _, value: _ } => Form::Acting,
-            Command::PeekMut { code: _, value: _ } => Form::Acting,
-            Command::FrontMut(_) => Form::Acting,
-            Command::BackMut(_) => Form::Acting,
-            Command::Put {
-                code: _,
-                stamp: _,
-                value: _,
-            } => Form::Handing,
-            Command::PutWithWeight {
-                code: _,
-                stamp: _,
-                value: _,
-                weight: _,
-            } => Form::Handing,
-            Command::Retain(_) => Form::Handing,
-            Command::Resize(_) => Form::Handing,
-            Command::PutOrModify {
-                code: _,
-                stamp: _,
-                amount: _,
-            } => Form::Handing,
-            Command::TryPutOrModify {
-                code: _,
-                stamp: _,
-                amount: _,
-                ceiling: _,
-            } => Form::Handing,
+            Command::Len
+            | Command::Capacity
+            | Command::Weight
+            | Command::IsEmpty
+            | Command::IsFull
+            | Command::Front
+            | Command::Back
+            | Command::Peek(_)
+            | Command::Contains(_) => Form::Reading,
+            Command::List | Command::ListBack => Form::Listing,
+            Command::Get(_)
+            | Command::Pop(_)
+            | Command::PopFront
+            | Command::PopBack
+            | Command::Clear
+            | Command::GetMut { .. }
+            | Command::PeekMut { .. }
+            | Command::FrontMut(_)
+            | Command::BackMut(_) => Form::Acting,
+            Command::Put { .. }
+            | Command::PutWithWeight { .. }
+            | Command::Retain(_)
+            | Command::Resize(_)
+            | Command::PutOrModify { .. }
+            | Command::TryPutOrModify { .. } => Form::Handing,
         }
     }
 }
 
 // Why a call was not carried out, and what helps.
-#[derive(Clone, Copy)]
+#[derive(Debug, Clone, Copy, PartialEq, Eq)]
 pub enum Refusal {
     // 1. Opening: a kind other than 0 and 1, a capacity or a slot count out of bounds, or a list too short: lend longer lists, or ask for less.
     NotOpened,
@@ -336,7 +295,7 @@ pub enum Refusal {
 }
 
 impl Refusal {
-    // Its number in the paper's table.
+    // Its number in the paper's table. A method and no From: docs/LAYERS.md names it.
     pub fn number(self) -> u32
         ensures { result ≡ number_of self }
     {
@@ -354,7 +313,7 @@ impl Refusal {
 }
 
 // What a call says. `rows` counts the rows written to the lent list.
-#[derive(Clone, Copy)]
+#[derive(Debug, Clone, Copy, PartialEq, Eq)]
 pub enum Answer {
     No(Refusal),
     // The code was absent and is now in front.
@@ -380,20 +339,16 @@ impl Answer {
         ensures { result ≡ row_count self }
     {
         match self {
-            Answer::No(_) => 0,
-            Answer::New { rows } => rows,
-            Answer::Was { value: _, rows } => rows,
-            Answer::Is(_) => 0,
-            Answer::Now {
-                value: _,
-                new: _,
-                rows,
-            } => rows,
-            Answer::Absent => 0,
-            Answer::Entry(_) => 0,
-            Answer::Done { rows } => rows,
-            Answer::Count(_) => 0,
-            Answer::Flag(_) => 0,
+            Answer::New { rows }
+            | Answer::Was { rows, .. }
+            | Answer::Now { rows, .. }
+            | Answer::Done { rows } => rows,
+            Answer::No(_)
+            | Answer::Is(_)
+            | Answer::Absent
+            | Answer::Entry(_)
+            | Answer::Count(_)
+            | Answer::Flag(_) => 0,
         }
     }
 }

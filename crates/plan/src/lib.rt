@@ -7,7 +7,7 @@ ghost use Rattle.plan.specs.Plans.{said, denied};
 use head::{Answer, Refusal, Row, Rule, Slot};
 
 // What is done to a cache. Entries are named by their slots.
-#[derive(Clone, Copy)]
+#[derive(Debug, Clone, Copy, PartialEq, Eq)]
 pub enum Plan {
     Stay,
     // Nothing changes, and all entries are handed out, front to back or back to front.
@@ -32,7 +32,7 @@ pub enum Plan {
     Clear,
 }
 
-#[derive(Clone, Copy)]
+#[derive(Debug, Clone, Copy, PartialEq, Eq)]
 pub struct Decision {
     pub answer: Answer,
     pub plan: Plan,
@@ -53,9 +53,6 @@ impl Decision {
     pub fn refuse(refusal: Refusal) -> Decision
         ensures { result ≡ denied refusal }
     {
-        Decision {
-            answer: Answer::No(refusal),
-            plan: Plan::Stay,
-        }
+        Decision::say(Answer::No(refusal))
     }
 }

@@ -1,22 +1,40 @@
--- The digits of a number, laid: its one digit, or the digits of a tenth of it and then its last digit.
+-- The digits of a number, laid: those in front of its last digit, which are the digits of a tenth of it or none, and then its last digit.
 -- Assumes nothing.
-use Prim.Native.Nat.{ℕ, ◌/◌, ◌%◌, ◌≤◌, ◌<◌}
+use Prim.Native.Nat.{ℕ, ◌+◌, ◌/◌, ◌%◌, ◌≤◌, ◌<◌}
+use mathlib.Core.Bool.{cond}
 use mathlib.Core.List.{List, [], ◌∷◌, ◌++◌}
 use mathlib.Core.Path.{◌≡◌, sym, ap, ◌∙◌, subst}
 use native.Mathlib.Nat.{mod-eq_of_lt}
+use native.Mathlib.Omega.{arith}
+use lib.Dec.{ltb}
+use lib.ListN.{length, length-append}
+use borrow.Author.Tests.{ltb-true, ltb-false, lt-ltb, le-ltb}
 use Rattle.script_digits.specs.Decimal.{digit_byte, digits_of}
-use Rattle.script_digits.specs.Laid.{Laid}
-use Rattle.script_digits.proofs.Laying.{laid_then}
-use Rattle.script_digits.proofs.Decimals.{digits_one, digits_more}
+use Rattle.script_digits.specs.Laid.{Room, Laid}
+use Rattle.script_digits.proofs.Laying.{laid_none, laid_size, laid_then}
+use Rattle.script_digits.proofs.Decimals.{split, digits_one, digits_more}
 
-module _ {at n last r : ℕ} {b a : List ℕ} (e : last ≡ digit_byte (n % 10)) where
-  pub wrote_one : n < 10 → Laid at (last ∷ []) r b a → Laid at (digits_of n) r b a
-  wrote_one h l =
-      subst (λ (xs : List ℕ). Laid at xs r b a) (ap (λ (x : ℕ). x ∷ []) (e ∙ ap digit_byte (mod-eq_of_lt h)) ∙ sym (digits_one n h)) l
+-- the digits in front of the last one
+abbrev pub front : ℕ → List ℕ
+front n = cond (ltb n 10) [] (digits_of (n / 10))
 
-  pub wrote_more : {m : ℕ} {b₁ : List ℕ} → 10 ≤ n → n < 18446744073709551616 → Laid at (digits_of (n / 10)) m b b₁ → Laid m (last ∷ []) r b₁ a
-      → Laid at (digits_of n) r b a
-  wrote_more h f k l =
-      subst (λ (xs : List ℕ). Laid at xs r b a)
-      (ap (λ (x : ℕ). digits_of (n / 10) ++ (x ∷ [])) e ∙ sym (digits_more n h f))
-      (laid_then k l)
+parts : (n : ℕ) → n < 18446744073709551616 → digits_of n ≡ front n ++ (digit_byte (n % 10) ∷ [])
+parts n f =
+    split (ltb n 10)
+    (λ e. let h : n < 10 = ltb-true n 10 e in rw e (digits_one n h ∙ ap (λ (d : ℕ). digit_byte d ∷ []) (sym (mod-eq_of_lt h))))
+    (λ e. rw e (digits_more n (ltb-false n 10 e) f))
+
+module _ {at n next : ℕ} {b a : List ℕ} where
+  pub front_none : n < 10 → at ≤ length b → next ≡ at → a ≡ b → Laid at (front n) next b a
+  front_none h r e f = rw (lt-ltb n 10 h, e, f) (laid_none at b r)
+
+  pub front_some : {m : ℕ} {b₁ : List ℕ} → 10 ≤ n → Laid at (digits_of (n / 10)) m b b₁ → next ≡ m → a ≡ b₁ → Laid at (front n) next b a
+  front_some h l e f = rw (le-ltb n 10 h, e, f) l
+
+  module _ (f : n < 18446744073709551616) (l : Laid at (front n) next b a) where
+    -- there is room for the last digit
+    pub last_room : Room at (digits_of n) b → next + 1 ≤ length a
+    last_room r = omega (arith, l.next, laid_size l, ap length (parts n f), length-append (front n) (digit_byte (n % 10) ∷ []))
+
+    pub wrote : {r : ℕ} {a' : List ℕ} → Laid next (digit_byte (n % 10) ∷ []) r a a' → Laid at (digits_of n) r b a'
+    wrote {r} {a'} k = subst (λ (xs : List ℕ). Laid at xs r b a') (sym (parts n f)) (laid_then l k)

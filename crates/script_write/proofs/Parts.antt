@@ -1,29 +1,16 @@
 -- A line's parts laid one after another, and the room that is left behind each.
 -- Assumes nothing.
-use Prim.Native.Nat.{ℕ, ◌+◌, ◌≤◌, ◌<◌}
+use Prim.Native.Nat.{ℕ, ◌+◌, ◌≤◌}
 use mathlib.Core.Bool.{Bool, true, false}
 use mathlib.Core.List.{List, [], ◌∷◌}
-use mathlib.Core.Path.{ap, ◌∙◌, subst, sym}
 use native.Mathlib.Omega.{arith}
-use native.Mathlib.Numerals.{add-one}
-use lib.ListN.{length, take, get_or, length-append}
-use lib.Seq.{length-take-le, take-suc}
-use Rattle.script_digits.specs.Laid.{Room, Laid}
+use lib.ListN.{length, length-append}
+use Rattle.script_digits.specs.Laid.{Laid}
 use Rattle.script_digits.specs.Decimal.{digits_of}
-use Rattle.script_digits.proofs.Laying.{laid_then, laid_size}
+use Rattle.script_digits.proofs.Laying.{laid_size}
 use Rattle.head.specs.declared.Row.{Row}
 use Rattle.script_digits.proofs.Decimals.{digits_most}
 use Rattle.script_write.specs.Lines.{field, row_word, row_line}
-
-module _ {at next : ℕ} {b a : List ℕ} (word : List ℕ) (i : ℕ) (h : i < length word) (l : Laid at (take i word) next b a) where
-  -- there is room for the word's next byte
-  pub byte_room : Room at word b → next + 1 ≤ length a
-  byte_room r = omega (arith, l.next, laid_size l, length-take-le i word (omega arith))
-
-  -- one byte of the word more
-  pub byte_step : {r : ℕ} {a' : List ℕ} → Laid next (get_or word i 0 ∷ []) r a a' → Laid at (take (i + 1) word) r b a'
-  byte_step {r} {a'} k =
-      subst (λ (xs : List ℕ). Laid at xs r b a') (sym (ap (λ (j : ℕ). take j word) (add-one i) ∙ take-suc word i 0 h)) (laid_then l k)
 
 -- a field has at most twenty digits and its end
 pub field_most : (n e : ℕ) → length (field n (e ∷ [])) ≤ 21

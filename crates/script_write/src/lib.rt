@@ -11,12 +11,8 @@ fn write_word(buffer: &mut [u8], at: usize, word: &[u8]) -> usize
     requires { Room at word.now buffer.old }
     ensures { Laid at word.now result buffer.old buffer.new }
 {
-    let mut next = at;
-    let mut i = 0;
-    while i < word.len() {
-        next = script_digits::put(buffer, next, word[i]);
-        i += 1;
-    }
+    let next = at + word.len();
+    buffer[at..next].copy_from_slice(word);
     next
 }
 
@@ -25,10 +21,7 @@ fn write_either(buffer: &mut [u8], at: usize, first: bool, one: &[u8], other: &[
     requires { Room at one.now buffer.old × Room at other.now buffer.old }
     ensures { Laid at (cond first one.now other.now) result buffer.old buffer.new }
 {
-    if first {
-        return write_word(buffer, at, one);
-    }
-    write_word(buffer, at, other)
+    write_word(buffer, at, if first { one } else { other })
 }
 
 // A number and the byte after it.
@@ -54,11 +47,9 @@ pub fn write_row(buffer: &mut [u8], at: usize, listed: bool, row: Row) -> usize
     requires { at + most_line ≤ length buffer.old }
     ensures { Laid at (row_line (row_word listed) row) result buffer.old buffer.new }
 {
-    let code = row.code;
-    let stamp = row.stamp as u64;
     let a = write_either(buffer, at, listed, b"row ", b"out ");
-    let b = write_field(buffer, a, code.0, b' ');
-    let c = write_field(buffer, b, stamp, b' ');
+    let b = write_field(buffer, a, row.code.0, b' ');
+    let c = write_field(buffer, b, u64::from(row.stamp), b' ');
     let d = write_field(buffer, c, row.value, b' ');
     write_field(buffer, d, row.weight, b'\n')
 }
@@ -86,18 +77,14 @@ pub fn write_answer(buffer: &mut [u8], at: usize, answer: Answer) -> usize
     ensures { Laid at (closing_line answer) result buffer.old buffer.new }
 {
     match answer {
-        Answer::No(why) => write_numbered(buffer, at, b"no ", why.number() as u64),
-        Answer::New { rows: _ } => write_word(buffer, at, b"new\n"),
-        Answer::Was { value, rows: _ } => write_numbered(buffer, at, b"was ", value),
+        Answer::No(why) => write_numbered(buffer, at, b"no ", u64::from(why.number())),
+        Answer::New { .. } => write_word(buffer, at, b"new\n"),
+        Answer::Was { value, .. } => write_numbered(buffer, at, b"was ", value),
         Answer::Is(value) => write_numbered(buffer, at, b"is ", value),
-        Answer::Now {
-            value,
-            new,
-            rows: _,
-        } => write_now(buffer, at, value, new),
+        Answer::Now { value, new, .. } => write_now(buffer, at, value, new),
         Answer::Absent => write_word(buffer, at, b"absent\n"),
         Answer::Entry(row) => write_entry(buffer, at, row),
-        Answer::Done { rows: _ } => write_word(buffer, at, b"ok\n"),
+        Answer::Done { .. } => write_word(buffer, at, b"ok\n"),
         Answer::Count(k) => write_numbered(buffer, at, b"count ", k),
         Answer::Flag(yes) => write_either(buffer, at, yes, b"true\n", b"false\n"),
     }

@@ -10,4 +10,4 @@ pub returns : goal.returns
 unfolding with_byte
 returns c =
     let a = c.args in
-    c.half-2.ensures ∙ ap (shifts 4) c.half.ensures ∙ sym (shifts_add 4 4 (bit_xor a.c a.b))
+    c.half-2.ensures ∙ ap (shifts 4) (c.half.ensures ∙ ap (λ b. shifts 4 (bit_xor a.c b)) c.from.ensures) ∙ sym (shifts_add 4 4 (bit_xor a.c a.b))

@@ -1,26 +1,11 @@
 -- `script_write::write_answer` meets its contract: each arm lays the line of its case.
 -- Assumes nothing.
-use native.Mathlib.Omega.{arith}
+use mathlib.Core.Path.{◌∙◌}
 use Rattle.script_write.proofs.Answers.{answered, refused}
 use Rattle.script_write.proofs.write_answer.Goals as goal
 
-pub write_numbered-requires : goal.write_numbered-requires
-write_numbered-requires c = omega arith
-
-pub write_numbered-requires-in-Was : goal.write_numbered-requires-in-Was
-write_numbered-requires-in-Was c = omega arith
-
-pub write_numbered-requires-in-Is : goal.write_numbered-requires-in-Is
-write_numbered-requires-in-Is c = omega arith
-
-pub write_numbered-requires-in-Count : goal.write_numbered-requires-in-Count
-write_numbered-requires-in-Count c = omega arith
-
-pub write_either-requires : goal.write_either-requires
-write_either-requires c = omega arith
-
 pub returns-in-No : goal.returns-in-No
-returns-in-No c = refused c.in-No.is c.number.ensures c.write_numbered.ensures
+returns-in-No c = refused c.in-No.is (c.from.ensures ∙ c.number.ensures) c.write_numbered.ensures
 
 pub returns-in-New : goal.returns-in-New
 returns-in-New c = answered c.in-New.is c.write_word.ensures
