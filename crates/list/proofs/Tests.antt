@@ -8,6 +8,7 @@ use mathlib.Core.Bool.{Bool, true, false, ◌&&◌}
 use mathlib.Core.List.{List}
 use lib.ListN.{length, get_or}
 use lib.Dec.{eqb, ltb}
+use borrow.Author.Tests.{lt-ltb, le-ltb, eq-eqb, ne_eqb}
 use Rattle.std.specs.Bool.{MatchBool}
 use Rattle.std.specs.List.{AllWithin, HoldsAt, range_with_len}
 use Rattle.std.proofs.lemmas.List.FromFn.{get_or-range_with_len, length-range_with_len}
@@ -56,15 +57,25 @@ all_from_is a n f false h = go (all_from n a f) refl
         sym (subst (λ (m : ℕ). f m ≡ false) e' (h.2 0)) ∙ all_at n a f e (a + h.0) (omega arith) (omega arith)
 
 module _ (nx pv : List ℕ) (top back : ℕ) where
-  pub walk_step : (n k last cur : ℕ) → k < n
-      → walk_ok nx pv top back (n - k) last cur ≡ (ltb cur top && (eqb (get_or pv cur 0) last && walk_ok nx pv top back (n - (k + 1)) cur (get_or nx cur 0)))
+  pub walk_step : (left last cur : ℕ) → 0 < left
+      → walk_ok nx pv top back left last cur ≡ (ltb cur top && (eqb (get_or pv cur 0) last && walk_ok nx pv top back (left - 1) cur (get_or nx cur 0)))
   unfolding walk_ok
-  walk_step n k last cur h =
-      let e : n - k ≡ suc (n - (k + 1)) = omega arith in
+  walk_step left last cur h =
+      let e : left ≡ suc (left - 1) = omega arith in
       ap (λ (j : ℕ). walk_ok nx pv top back j last cur) e
 
-  pub walk_end : (n k last cur : ℕ) → n ≤ k → walk_ok nx pv top back (n - k) last cur ≡ (eqb cur none_mark && eqb last back)
+  pub walk_far : (left last cur : ℕ) → 0 < left → top ≤ cur → walk_ok nx pv top back left last cur ≡ false
+  walk_far left last cur h g = walk_step left last cur h ∙ rw (le-ltb cur top g) refl
+
+  pub walk_miss : (left last cur : ℕ) → 0 < left → cur < top → (get_or pv cur 0 ≡ last → ⊥) → walk_ok nx pv top back left last cur ≡ false
+  walk_miss left last cur h g d = walk_step left last cur h ∙ rw (lt-ltb cur top g, ne_eqb (get_or pv cur 0) last d) refl
+
+  pub walk_more : (left last cur : ℕ) → 0 < left → cur < top → get_or pv cur 0 ≡ last
+      → walk_ok nx pv top back left last cur ≡ walk_ok nx pv top back (left - 1) cur (get_or nx cur 0)
+  walk_more left last cur h g d = walk_step left last cur h ∙ rw (lt-ltb cur top g, eq-eqb (get_or pv cur 0) last d) refl
+
+  pub walk_end : (left last cur : ℕ) → left ≤ 0 → walk_ok nx pv top back left last cur ≡ (eqb cur none_mark && eqb last back)
   unfolding walk_ok
-  walk_end n k last cur h =
-      let e : n - k ≡ 0 = omega arith in
+  walk_end left last cur h =
+      let e : left ≡ 0 = omega arith in
       ap (λ (j : ℕ). walk_ok nx pv top back j last cur) e

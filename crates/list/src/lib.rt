@@ -213,6 +213,7 @@ pub fn after(next: &[u32], slot: Slot) -> Slot
 }
 
 // The slot ahead of this one in the order, NONE ahead of the first: the step of a walk from `head.back`.
+// `after` and this read a link alike: one function of any links would not say which way a walk goes.
 pub fn ahead(prev: &[u32], slot: Slot) -> Slot
     requires { slot.0 < length prev.now }
     ensures { result.0 ≡ get_or prev.now slot.0 0 }
