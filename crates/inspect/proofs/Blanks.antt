@@ -46,17 +46,6 @@ blank_passes f u z =
     (and_in _ _ (eq-eqb (get_or f.stamps u 0) 0 (ap (λ (r : Row). r.stamp) z))
     (and_in _ _ (eq-eqb (get_or f.values u 0) 0 (ap (λ (r : Row). r.value) z)) (eq-eqb (get_or f.weights u 0) 0 (ap (λ (r : Row). r.weight) z))))
 
--- all tests but the last pass
-pub blank_last : (f : Fields) (u : ℕ) → get_or f.codes u 0 ≡ 0 → get_or f.stamps u 0 ≡ 0 → get_or f.values u 0 ≡ 0
-    → eqb (get_or f.weights u 0) 0 ≡ blank_at f u
-unfolding blank_at
-blank_last f u b c d =
-    rw (
-      eq-eqb (get_or f.codes u 0) 0 b,
-      eq-eqb (get_or f.stamps u 0) 0 c,
-      eq-eqb (get_or f.values u 0) 0 d,
-    )
-
 -- ---- the stack's slots
 
 -- where a number stands in a list

@@ -1,12 +1,11 @@
 -- The tests pass together exactly where head and lists describe a cache.
 -- Assumes nothing.
 use Prim.Native.Nat.{ℕ, ◌-◌, ◌*◌, ◌≤◌, ◌<◌}
-use mathlib.Core.Bool.{Bool, true, false, not, ◌&&◌, false≢true}
+use mathlib.Core.Bool.{Bool, true, ◌&&◌}
 use mathlib.Core.List.{List, []}
 use mathlib.Core.Path.{◌≡◌, refl, sym, ap, ◌∙◌, subst}
 use native.Mathlib.Omega.{arith}
 use lib.ListN.{length, get_or, take}
-use borrow.Author.Tests.{not-true, not-false}
 use Rattle.head.specs.declared.Head.{Head}
 use Rattle.head.specs.declared.Row.{Row}
 use Rattle.head.specs.Bounds.{none_mark, most_slots}
@@ -21,7 +20,7 @@ use Rattle.model.specs.Perform.{Cache}
 use Rattle.model.proofs.Cases.{both}
 use Rattle.model.proofs.Mapping.{map_length}
 use Rattle.list.specs.Links as list
-use Rattle.list.specs.Inspect.{all_from, links_ok, Inspected}
+use Rattle.list.specs.Inspect.{all_from, links_ok}
 use Rattle.list.proofs.Walked.{and_in}
 use Rattle.list.proofs.Unique.{order_is}
 use Rattle.list.proofs.Within.{in_slots}
@@ -38,9 +37,8 @@ use Rattle.store.proofs.Gathered.{gathering}
 use Rattle.store.proofs.Described.{order_live}
 use Rattle.store.proofs.Walked.{slot_below, walk_listed}
 use Rattle.inspect.specs.Tests.{head_ok, used_stands, sum_ok, blank_at, stack_blank, Piled}
-use Rattle.inspect.proofs.Bits.{at}
 use Rattle.inspect.proofs.Blanks.{stack_below, blanks_are, are_stacked, are_rest}
-use Rattle.inspect.proofs.Sums.{sum_is, sum_passes, total, total_order}
+use Rattle.inspect.proofs.Sums.{at, sum_is, sum_passes, total, total_order}
 use Rattle.inspect.proofs.Counts.{counts_below, counts_wider}
 use Rattle.inspect.proofs.Used.{used_standing, standing_used}
 use Rattle.inspect.proofs.Orders.{codes_once, slot_once}
@@ -240,47 +238,15 @@ module _ (h : Head) (f : Fields) (nx pv st cells : List ℕ) where
       let v = both used_stand _ k.1 in
       let g = both weights_fit _ v.1 in
       let u = both stack_blanks _ g.1 in
-      framed_whole (record { head = numbered h a.0; lists = all_reach h.slots f nx pv st cells b.0; links = links_sound h nx pv st c.0 })
-      k.0 v.0 g.0 u.0 u.1
+      framed_whole (record { head = numbered h a.0; lists = all_reach h.slots f nx pv st cells b.0; links = links_sound h nx pv st c.0 }) k.0 v.0 g.0 u.0 u.1
 
-  -- ---- as the code runs them: a test's answer b, and whether it was no
-
-  module _ {b : Bool} where
-    refuse : {t : Bool} → (Whole h f nx pv st cells → t ≡ true) → b ≡ t → not b ≡ true → Decides false (Whole h f nx pv st cells)
-    refuse p e n = record { yes = λ z. absurd (false≢true z); no = λ w. sym (not-true b n) ∙ e ∙ p w }
-
-    pub no_head : b ≡ head_ok h → not b ≡ true → Decides false (Whole h f nx pv st cells)
-    no_head = refuse whole_head
-
-    pub no_lengths : b ≡ all_long h.slots f nx pv st cells → not b ≡ true → Decides false (Whole h f nx pv st cells)
-    no_lengths = refuse whole_lengths
-
-    pub no_links : Inspected h nx pv st b → not b ≡ true → Decides false (Whole h f nx pv st cells)
-    no_links i n = record { yes = λ z. absurd (false≢true z); no = λ w. sym (not-true b n) ∙ i.passes (whole_links w) }
-
-    pub no_cells : b ≡ cells_full → not b ≡ true → Decides false (Whole h f nx pv st cells)
-    no_cells = refuse whole_cells
-
-    pub no_used : b ≡ used_stand → not b ≡ true → Decides false (Whole h f nx pv st cells)
-    no_used = refuse whole_used
-
-    pub no_weights : b ≡ weights_fit → not b ≡ true → Decides false (Whole h f nx pv st cells)
-    no_weights = refuse whole_weights
-
-    pub no_stacked : b ≡ stack_blanks → not b ≡ true → Decides false (Whole h f nx pv st cells)
-    no_stacked = refuse whole_stacked
-
-    -- all tests but the last passed
-    pub by_rest : Framed → cells_full ≡ true → used_stand ≡ true → weights_fit ≡ true → stack_blanks ≡ true → b ≡ rest_blank → Decides b (Whole h f nx pv st cells)
-    by_rest y k v g u e = record { yes = λ z. framed_whole y k v g u (sym e ∙ z); no = λ w. e ∙ whole_rest w }
+  -- the answer that all tests together give
+  pub decided : {b : Bool} → b ≡ passes → Decides b (Whole h f nx pv st cells)
+  decided e = record { yes = λ z. passed_whole (sym e ∙ z); no = λ w. e ∙ whole_passes w }
 
   -- the first three, passed
-  pub framed : {a b c : Bool} → a ≡ head_ok h → b ≡ all_long h.slots f nx pv st cells → Inspected h nx pv st c → not a ≡ false → not b ≡ false → not c ≡ false → Framed
-  framed {a} {b} {c} p q i x y z = record {
-    head = numbered h (sym p ∙ not-false a x);
-    lists = all_reach h.slots f nx pv st cells (sym q ∙ not-false b y);
-    links = i.sound (not-false c z);
-  }
+  pub framed : head_ok h ≡ true → all_long h.slots f nx pv st cells ≡ true → links_ok h nx pv st ≡ true → Framed
+  framed x y z = record { head = numbered h x; lists = all_reach h.slots f nx pv st cells y; links = links_sound h nx pv st z }
 
   -- what the calls behind them ask
   pub record Ready : Type 0 where

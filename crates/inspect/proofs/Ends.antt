@@ -117,16 +117,16 @@ module _ (nx pv : List ℕ) (top back : ℕ) where
       unfolding walk_ok
       longer = and_in _ _ (lt-ltb b top v.low_b) (and_in _ _ (eq-eqb (before b) (before b) refl) v.tail)
 
-      pub nearer : next a < top → before b < top → before (next a) ≡ a → next (before b) ≡ b → Meeting whole (more - 2) (next a) (before b)
-      nearer l m p q = record {
+      pub nearer : {left : ℕ} → left ≡ more - 2 → next a < top → before b < top → before (next a) ≡ a → next (before b) ≡ b → Meeting whole left (next a) (before b)
+      nearer {left} r l m p q = record {
         done = suc v.done;
         low_a = l;
         low_b = m;
         same =
-            let z : more + v.done - 1 ≡ more - 2 + suc v.done = omega arith in
+            let z : more + v.done - 1 ≡ left + suc v.done = omega arith in
             v.same ∙ walk_more nx pv top back (more + v.done) a (next a) (omega arith) l p ∙ ap (λ (j : ℕ). W j (next a) (next (next a))) z;
         tail = subst (λ (x : ℕ). W (suc v.done) (before b) x ≡ true) (sym q) longer;
-        met = λ w. let z : suc (more - 2) ≡ more - 1 = omega arith in ap (λ (j : ℕ). iter j a) z ∙ sym (is_ahead w);
+        met = λ w. let z : suc left ≡ more - 1 = omega arith in ap (λ (j : ℕ). iter j a) z ∙ sym (is_ahead w);
       }
 
     -- ---- the middle: one slot, or two
@@ -140,8 +140,8 @@ module _ (nx pv : List ℕ) (top back : ℕ) where
         (λ n. ne_eqb a b n ∙ not_so (λ w. n (ap (λ (j : ℕ). iter j a) (sym z) ∙ v.met w)))
         (same? a b)
 
-    pub meet_apart : more ≡ 1 → (next a ≡ b → ⊥) → false ≡ whole
-    meet_apart z n = not_so (λ w. n (ap (λ (j : ℕ). iter j a) (sym z) ∙ v.met w))
+    pub meet_apart : more ≡ 1 → (next a ≡ b → ⊥) → eqb (next a) b ≡ whole
+    meet_apart z n = ne_eqb (next a) b n ∙ not_so (λ w. n (ap (λ (j : ℕ). iter j a) (sym z) ∙ v.met w))
 
     opened : W (suc v.done) a b ≡ eqb (before b) a
     unfolding walk_ok
@@ -159,14 +159,14 @@ module _ (nx pv : List ℕ) (top back : ℕ) where
   stops q = and_in _ _ (eq-eqb (next back) none_mark q) (eq-eqb back back refl)
 
   -- the two ends, with all slots between them left
-  pub apart : {more a : ℕ} → a < top → back < top → next back ≡ none_mark → Meeting (W more a (next a)) more a back
-  apart {more} {a} l m q = record {
+  pub apart : {more left a : ℕ} → left ≡ more → a < top → back < top → next back ≡ none_mark → Meeting (W more a (next a)) left a back
+  apart {more} {left} {a} r l m q = record {
     done = 0;
     low_a = l;
     low_b = m;
-    same = let z : more ≡ more + 0 = omega arith in ap (λ (j : ℕ). W j a (next a)) z;
+    same = let z : more ≡ left + 0 = omega arith in ap (λ (j : ℕ). W j a (next a)) z;
     tail = stops q;
-    met = w_iter more a;
+    met = λ w. ap (λ (j : ℕ). iter j a) r ∙ w_iter more a w;
   }
 
   -- ---- `walk_links`: what each of its tests says of the whole walk
@@ -176,8 +176,8 @@ module _ (nx pv : List ℕ) (top back : ℕ) where
     whole = W live none_mark front
 
     -- no slot is live
-    pub none_front : live ≡ 0 → (front ≡ none_mark → ⊥) → false ≡ whole
-    none_front z n = sym (walk_end nx pv top back live none_mark front (omega arith) ∙ rw (ne_eqb front none_mark n) refl)
+    pub none_front : live ≡ 0 → (front ≡ none_mark → ⊥) → eqb front none_mark ≡ whole
+    none_front z n = ne_eqb front none_mark n ∙ sym (walk_end nx pv top back live none_mark front (omega arith) ∙ rw (ne_eqb front none_mark n) refl)
 
     pub none_back : live ≡ 0 → front ≡ none_mark → eqb back none_mark ≡ whole
     none_back z e = eqb_sym back none_mark ∙ sym (walk_end nx pv top back live none_mark front (omega arith) ∙ rw (eq-eqb front none_mark e) refl)
@@ -210,3 +210,6 @@ module _ (nx pv : List ℕ) (top back : ℕ) where
           pub back_loose : (next back ≡ none_mark → ⊥) → false ≡ whole
           back_loose n =
               not_so (λ w. n (ap next (sym (w_iter (live - 1) front (sym behind_front ∙ w))) ∙ w_stop (live - 1) front (sym behind_front ∙ w)))
+
+-- what the tests of `walk_links` say
+pub ruleset walk_laws = (none_front, none_back, front_far, front_loose, back_far, back_loose, behind_front)

@@ -70,9 +70,3 @@ head_passes h n =
     (and_in _ _ (le-leb 1 h.slots n.slots.0) (le-leb h.slots most_slots n.slots.1))))
     (and_in _ _ (le-leb h.weight h.capacity (omega (arith, n.within)))
     (and_in _ _ (le-leb h.live (h.capacity - h.weight) (omega (arith, n.within))) light))
-
--- all tests but the last pass, on a plain cache
-pub head_plain : (h : Head) → allowed h.kind h.capacity h.slots ≡ true → h.weight ≤ h.capacity → h.live ≤ h.capacity - h.weight
-    → h.kind ≡ plain_kind → eqb h.weight 0 ≡ head_ok h
-unfolding head_ok
-head_plain h a b c d = rw (a, le-leb h.weight h.capacity b, le-leb h.live (h.capacity - h.weight) c, eq-eqb h.kind plain_kind d)

@@ -19,7 +19,10 @@ use Rattle.list.proofs.Walked.{and_in}
 use Rattle.head.specs.Fields.{Fields}
 use Rattle.store.specs.State.{gather}
 use Rattle.inspect.specs.Tests.{sum_ok, is_at}
-use Rattle.inspect.proofs.Bits.{at}
+
+-- a list's number at a place
+abbrev pub at : List ℕ → ℕ → ℕ
+at l j = get_or l j 0
 
 -- what a function gives at k places from i on, together
 abbrev pub total : (ℕ → ℕ) → ℕ → ℕ → ℕ
@@ -58,9 +61,6 @@ sum_more ws n k left h l = sum_step ws n k left h ∙ rw (le-leb (get_or ws k 0)
 pub sum_end : (ws : List ℕ) (n k left : ℕ) → n ≤ k → sum_ok ws (n - k) k left ≡ eqb left 0
 unfolding sum_ok
 sum_end ws n k left h = let e : n - k ≡ 0 = omega arith in ap (λ (j : ℕ). sum_ok ws j k left) e
-
-pub sum_start : (ws : List ℕ) (n left : ℕ) → sum_ok ws n 0 left ≡ sum_ok ws (n - 0) 0 left
-sum_start ws n left = let e : n ≡ n - 0 = omega arith in ap (λ (j : ℕ). sum_ok ws j 0 left) e
 
 -- ---- sums of functions
 

@@ -14,7 +14,7 @@ use Rattle.table.specs.declared.Search.TheVariants.{Found, Empty}
 use Rattle.table.specs.Cells.{slot_of, wrap, ring, passed, answer, lookup, sought, slot_in, count_in, names}
 use Rattle.table.specs.Sound.{Gapped, Sound}
 use Rattle.table.specs.Orders.{Same}
-use Rattle.table.specs.Acts.{Slotted, Holding}
+use Rattle.table.specs.Acts.{Holding}
 use Rattle.table.proofs.Ring.{eq_or_ne}
 use Rattle.table.proofs.Seek.{answer_none, answer_some}
 use Rattle.table.proofs.Found.{found_at, lookup_cases, sound_open, counted, found_live, empty_absent, live_found}
@@ -108,9 +108,6 @@ module _ {home : ℕ → ℕ} {m : ℕ} {cells codes order : List ℕ} (hb : (c 
       let x = get_or codes s 0 in
       let f = found_holding x q in
       (f.0, f.1 ∙ live_found d x (hb x) s h refl q)
-
-  pub live_slotted : {s : ℕ} → Memᴰ s order → Slotted m cells codes s
-  live_slotted {s} h = record { table = sound_open d; coded = (d.slot s h).0 }
 
 -- which slot is found does not depend on the cells, on how many there are, on the homes or on the order of the live slots
 pub one_answer : {home home' : ℕ → ℕ} {m m' : ℕ} {cells cells' codes order order' : List ℕ} → ((c : ℕ) → home c < m) → ((c : ℕ) → home' c < m')

@@ -12,7 +12,7 @@ use lib.ListN.{length, get_or, take, set, length-set}
 use lib.Seq.{get_or-take, length-take-le, get_or-set_other}
 use Rattle.head.specs.declared.Slot.{Slot}
 use Rattle.table.specs.declared.Search.TheVariants.{Found}
-use Rattle.table.specs.declared.Tally.TheVariants.{All}
+use Rattle.std.specs.Prelude.{Some}
 use Rattle.head.specs.Bounds.{none_mark}
 use Rattle.head.specs.Walks.{walk}
 use Rattle.table.specs.Cells.{slot_of, lookup}
@@ -224,15 +224,15 @@ module _ {home : ℕ → ℕ} {m : ℕ} (hb : (c : ℕ) → home c < m) (cells c
 
 module _ {home : ℕ → ℕ} {n : ℕ} {cells codes next order : List ℕ} (hb : (c : ℕ) → home c < 2 * n) (l : Listed n cells codes next order) where
   -- what a sound table passes
-  pub sound_tallied : Sound home (2 * n) cells codes order → tallied (length codes) (take (2 * n) cells) ≡ All (length order)
+  pub sound_tallied : Sound home (2 * n) cells codes order → tallied (length codes) (take (2 * n) cells) ≡ Some (length order)
   sound_tallied d =
       let k = sound_checked l.room hb l.once l.coded d in
-      tallied_here (length codes) (2 * n) cells l.wide k.slots ∙ ap (λ (x : ℕ). All x) k.full
+      tallied_here (length codes) (2 * n) cells l.wide k.slots ∙ ap (λ (x : ℕ). Some x) k.full
 
   pub sound_standing : Sound home (2 * n) cells codes order → all_standing home (2 * n) cells codes order ≡ true
   sound_standing d = all_standing_lem hb cells codes order (sound_checked l.room hb l.once l.coded d).found
 
-  module _ (passed : tallied (length codes) (take (2 * n) cells) ≡ All (length order)) where
+  module _ (passed : tallied (length codes) (take (2 * n) cells) ≡ Some (length order)) where
     pub tallied_open : Gapped (2 * n) cells codes
     tallied_open =
         let b = tallied_below (length codes) (2 * n) cells l.wide passed in
@@ -253,21 +253,20 @@ module _ {home : ℕ → ℕ} {n : ℕ} {cells codes next order : List ℕ} (hb 
 
   module _ {live : ℕ} (many : length order ≡ live) where
     pub sound_counts : Sound home (2 * n) cells codes order → counts live (tallied (length codes) (take (2 * n) cells)) ≡ true
-    sound_counts d = all_counts live (tallied (length codes) (take (2 * n) cells)) (sound_tallied d ∙ ap (λ (x : ℕ). All x) many)
+    sound_counts d = all_counts live (tallied (length codes) (take (2 * n) cells)) (sound_tallied d ∙ ap (λ (x : ℕ). Some x) many)
 
-    pub inspect_count : counts live (tallied (length codes) (take (2 * n) cells)) ≡ false → Decides false (Sound home (2 * n) cells codes order)
-    inspect_count e = record { yes = λ z. absurd (false≢true z); no = λ d. sym e ∙ sound_counts d }
+    pub inspect_count : {b : Bool} → b ≡ counts live (tallied (length codes) (take (2 * n) cells)) → b ≡ false → Decides b (Sound home (2 * n) cells codes order)
+    inspect_count q e = record { yes = λ z. absurd (false≢true (sym e ∙ z)); no = λ d. q ∙ sound_counts d }
 
-    pub inspect_passed : counts live (tallied (length codes) (take (2 * n) cells)) ≡ true → tallied (length codes) (take (2 * n) cells) ≡ All (length order)
-    inspect_passed e = counts_all live (tallied (length codes) (take (2 * n) cells)) e ∙ ap (λ (x : ℕ). All x) (sym many)
+    pub inspect_passed : counts live (tallied (length codes) (take (2 * n) cells)) ≡ true → tallied (length codes) (take (2 * n) cells) ≡ Some (length order)
+    inspect_passed e = counts_all live (tallied (length codes) (take (2 * n) cells)) e ∙ ap (λ (x : ℕ). Some x) (sym many)
 
-  pub inspect_rest : {b : Bool} → tallied (length codes) (take (2 * n) cells) ≡ All (length order) → b ≡ all_standing home (2 * n) cells codes order → Decides b (Sound home (2 * n) cells codes order)
+  pub inspect_rest : {b : Bool} → tallied (length codes) (take (2 * n) cells) ≡ Some (length order) → b ≡ all_standing home (2 * n) cells codes order → Decides b (Sound home (2 * n) cells codes order)
   inspect_rest p e = record { yes = λ z. tested_sound p (sym e ∙ z); no = λ d. e ∙ sound_standing d }
 
 -- ---- the loop of `all_stand`: from slot `slot` on, live - i slots are left
 
 pub record Asking (home : ℕ → ℕ) (m : ℕ) (cells codes next : List ℕ) (whole : Bool) (live slot i : ℕ) : Type 0 where
-  pub i_le : i ≤ live
   pub table : Gapped m cells codes
   pub coded : (s : ℕ) → Memᴰ s (walk next slot (live - i)) → (s < length codes) × (s < length next)
   pub same : whole ≡ all_standing home m cells codes (walk next slot (live - i))
@@ -277,7 +276,6 @@ pub ask_start : {home : ℕ → ℕ} {n : ℕ} {cells codes next : List ℕ} (li
 ask_start {home} {n} {cells} {codes} {next} live front o l =
     let z : live - 0 ≡ live = omega arith in
     record {
-      i_le = zero-le;
       table = o;
       coded = λ s h. let k = subst (λ (j : ℕ). Memᴰ s (walk next front j)) z h in ((l.coded s k).0, l.linked s k);
       same = ap (λ (j : ℕ). all_standing home (2 * n) cells codes (walk next front j)) (sym z);
@@ -302,13 +300,11 @@ module _ {home : ℕ → ℕ} {m : ℕ} {cells codes next : List ℕ} {whole : B
     pub ask_no : {b : Bool} → b ≡ standing home m cells codes slot → b ≡ false → false ≡ whole
     ask_no q e = let z : standing home m cells codes slot ≡ false = sym q ∙ e in sym (rw z at split)
 
-    pub ask_on : {b : Bool} {y t : ℕ} → b ≡ standing home m cells codes slot → b ≡ true → y ≡ slot → t ≡ get_or next y 0 → Asking home m cells codes next whole live t (i + 1)
-    ask_on {b} {y} {t} q e r w =
+    pub ask_on : {b : Bool} → b ≡ standing home m cells codes slot → b ≡ true → Asking home m cells codes next whole live (get_or next slot 0) (i + 1)
+    ask_on q e =
         let z : standing home m cells codes slot ≡ true = sym q ∙ e in
-        let u : get_or next slot 0 ≡ t = sym (w ∙ ap (λ (x : ℕ). get_or next x 0) r) in
         record {
-          i_le = omega arith;
           table = v.table;
-          coded = λ s k. v.coded s (subst (Memᴰ s) (sym opened) (Memᴰ.tail (subst (λ (x : ℕ). Memᴰ s (walk next x (live - (i + 1)))) (sym u) k)));
-          same = rw z at split ∙ ap (λ (x : ℕ). all_standing home m cells codes (walk next x (live - (i + 1)))) u;
+          coded = λ s k. v.coded s (subst (Memᴰ s) (sym opened) (Memᴰ.tail k));
+          same = rw z at split;
         }

@@ -10,7 +10,6 @@ use native.Mathlib.Omega.{arith}
 use lib.ListN.{length, get_or, take}
 use lib.Seq.{length-take-le, get_or-take}
 use Rattle.head.specs.declared.Slot.{Slot}
-use Rattle.table.specs.declared.Search.{Search}
 use Rattle.table.specs.declared.Search.TheVariants.{Found, Empty}
 use Rattle.head.specs.Bounds.{none_mark}
 use Rattle.table.specs.Cells.{slot_of, wrap, ring, stops, passed, answer, lookup}
@@ -132,11 +131,6 @@ module _ (cells codes : List ℕ) (m h code : ℕ) (o : Gapped m cells codes) (h
           let w : Empty (wrap m (h + P)) (P + 1) ≡ Found (slot_of s) cell count = sym (answer_none last (wrap m (h + P)) (P + 1) e) ∙ sym ended ∙ q in
           let z : ◌≡◌ {A = ℕ} 0 1 = cc in
           absurd (omega arith)
-
--- the answer x of a search for the code of slot y, which is slot s
-pub seen : (home : ℕ → ℕ) (m : ℕ) (cells codes : List ℕ) {x z : Search} {y s : ℕ} → x ≡ z → x ≡ lookup cells codes m (home (get_or codes y 0)) (get_or codes y 0) → y ≡ s
-    → lookup cells codes m (home (get_or codes s 0)) (get_or codes s 0) ≡ z
-seen home m cells codes e q r = sym (ap (λ (y : ℕ). lookup cells codes m (home (get_or codes y 0)) (get_or codes y 0)) r) ∙ sym q ∙ e
 
 -- ---- in a sound table
 

@@ -24,7 +24,6 @@ use Rattle.table.proofs.Kept.{clear_sound, clear_tail, order_sound}
 pub record Renewing (home : ℕ → ℕ) (n : ℕ) (cells₀ codes next order cells : List ℕ) (live slot i : ℕ) : Type 0 where
   pub keyed : Keyed n cells₀ codes next order
   pub live_is : length order ≡ live
-  pub i_le : i ≤ live
   pub tail : Tail (2 * n) cells₀ cells
   pub done : List ℕ
   pub done_is : length done ≡ i
@@ -55,7 +54,6 @@ renew_start {home} {n} {cells} {codes} {next} live front k e =
     record {
       keyed = keyed_long (tail₀ k e).size k;
       live_is = walk_length next front live;
-      i_le = omega arith;
       tail = record { size = refl; tail = refl };
       done = [];
       done_is = refl;
@@ -101,15 +99,12 @@ module _ {home : ℕ → ℕ} {n : ℕ} {cells₀ codes next order cells : List 
     pub renew_linked : slot < length next
     renew_linked = v.keyed.listed.linked slot here
 
-    pub renew_on : {cells' : List ℕ} {y t : ℕ} → cells' ≡ inserted home (2 * n) cells codes slot → y ≡ slot → t ≡ get_or next y 0
-        → Renewing home n cells₀ codes next order cells' live t (i + 1)
-    renew_on {cells'} {y} {t} e q r =
-        let onward : rest ≡ walk next t (live - (i + 1)) = ap (λ (x : ℕ). walk next x (live - (i + 1))) (sym (r ∙ ap (λ (x : ℕ). get_or next x 0) q)) in
+    pub renew_on : {cells' : List ℕ} → cells' ≡ inserted home (2 * n) cells codes slot → Renewing home n cells₀ codes next order cells' live (get_or next slot 0) (i + 1)
+    renew_on {cells'} e =
         let once' : Distinct (slot ∷ rest) = subst Distinct opened v.once in
         record {
           keyed = v.keyed;
           live_is = v.live_is;
-          i_le = omega arith;
           tail = record {
             size = ap length e ∙ (insert_tail hb (sound_open v.sound) slot).size ∙ v.tail.size;
             tail = ap (drop (2 * n)) e ∙ (insert_tail hb (sound_open v.sound) slot).tail ∙ v.tail.tail;
@@ -118,11 +113,11 @@ module _ {home : ℕ → ℕ} {n : ℕ} {cells₀ codes next order cells : List 
           done_is = omega (arith, v.done_is);
           sound = subst (λ (c : List ℕ). Sound home (2 * n) c codes (slot ∷ v.done)) (sym e)
               (insert_sound hb v.sound slot (v.keyed.listed.coded slot here) fresh (omega (arith, v.done_is, v.live_is, v.keyed.listed.room)));
-          split = λ s k. subst (λ (l : List ℕ). Memᴰ s (slot ∷ v.done) ⊎ Memᴰ s l) onward (moved s k);
+          split = moved;
           was = λ s k. ⊎_elim (λ (w : s ≡ slot). Memᴰ.cast w here) (v.was s) (Memᴰ.cases_cons k);
-          will = λ s k. v.will s (later s (subst (Memᴰ s) (sym onward) k));
-          apart = λ s k w. apart' once' s k (subst (Memᴰ s) (sym onward) w);
-          once = subst Distinct onward (distinct_rest slot rest once');
+          will = λ s k. v.will s (later s k);
+          apart = apart' once';
+          once = distinct_rest slot rest once';
         }
       where
         fresh : (s : ℕ) → Memᴰ s v.done → get_or codes s 0 ≢ get_or codes slot 0

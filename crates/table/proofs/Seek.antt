@@ -109,21 +109,20 @@ module _ {cells codes : List ℕ} {m h code cell count : ℕ} (s : Seeking cells
       ∙ sym (lookup_none cells codes m h code s.table s.home_in k s.so_far (sym here ∙ e))
       ∙ ap (λ (x : ℕ). lookup cells codes m x code) q
 
-  -- y is the slot that was read
-  pub seek_some : {g y : ℕ} → h ≡ g → y ≡ get_or cells cell 0 → get_or cells cell 0 ≢ none_mark → get_or codes y 0 ≡ code → Found (slot_of (get_or cells cell 0)) cell count ≡ lookup cells codes m g code
-  seek_some {g} {y} q r n e =
+  pub seek_some : {g : ℕ} → h ≡ g → get_or cells cell 0 ≢ none_mark → get_or codes (get_or cells cell 0) 0 ≡ code → Found (slot_of (get_or cells cell 0)) cell count ≡ lookup cells codes m g code
+  seek_some {g} q n e =
       ap (λ (i : ℕ). Found (slot_of (get_or cells i 0)) i count) s.cell_is
       ∙ ap (λ (n : ℕ). Found (slot_of (get_or cells (wrap m (h + k)) 0)) (wrap m (h + k)) n) s.count_is
-      ∙ sym (lookup_some cells codes m h code s.table s.home_in k s.so_far (λ z. n (here ∙ z)) (ap (λ (x : ℕ). get_or codes x 0) (sym here ∙ sym r) ∙ e))
+      ∙ sym (lookup_some cells codes m h code s.table s.home_in k s.so_far (λ z. n (here ∙ z)) (ap (λ (x : ℕ). get_or codes x 0) (sym here) ∙ e))
       ∙ ap (λ (x : ℕ). lookup cells codes m x code) q
 
-  pub seek_on : {i y : ℕ} → i ≡ cell_after m cell → y ≡ get_or cells cell 0 → get_or cells cell 0 ≢ none_mark → get_or codes y 0 ≢ code → Seeking cells codes m h code i (count + 1)
-  seek_on {i} {y} q r n e =
+  pub seek_on : {i : ℕ} → i ≡ cell_after m cell → get_or cells cell 0 ≢ none_mark → get_or codes (get_or cells cell 0) 0 ≢ code → Seeking cells codes m h code i (count + 1)
+  seek_on {i} q n e =
       record {
         table = s.table;
         home_in = s.home_in;
         before = k + 1;
         count_is = ap (λ (x : ℕ). x + 1) s.count_is;
         cell_is = q ∙ ap (cell_after m) s.cell_is ∙ next_wrap m h k s.home_in inside;
-        so_far = omega (arith, passes cells codes m h code s.table s.home_in k s.so_far (λ z. n (here ∙ z)) (λ z. e (ap (λ (x : ℕ). get_or codes x 0) (r ∙ here) ∙ z)));
+        so_far = omega (arith, passes cells codes m h code s.table s.home_in k s.so_far (λ z. n (here ∙ z)) (λ z. e (ap (λ (x : ℕ). get_or codes x 0) here ∙ z)));
       }

@@ -128,9 +128,6 @@ module _ {home : ℕ → ℕ} {m : ℕ} {codes : List ℕ} {s : ℕ} {cells d : 
   in_d : hole < length d
   in_d = omega (arith, v.hole_in, v.long, v.open'.wide)
 
-  pub at_d : at < length d
-  at_d = omega (arith, v.at_in, v.long, v.open'.wide)
-
   run_now : Run d m at (cell_after m hole)
   run_now = run_keep (cut_full d hole in_d) (run_of v.settled)
 
@@ -162,9 +159,9 @@ module _ {home : ℕ → ℕ} {m : ℕ} {codes : List ℕ} {s : ℕ} {cells d : 
     cut_at z = f (sym (cut_else d hole in_d at apart) ∙ z)
 
     -- the test that the code makes
-    pub test_is : {g y k : ℕ} → g ≡ cell_after m hole → y ≡ get_or d at 0 → k ≡ home (get_or codes y 0) → between g k at ≡ between (cell_after m hole) r at
-    test_is {g} {y} {k} a b c =
-        ap (λ (x : ℕ). between x k at) a ∙ ap (λ (x : ℕ). between (cell_after m hole) x at) (c ∙ ap (λ (x : ℕ). home (get_or codes x 0)) b)
+    pub test_is : {g k : ℕ} → g ≡ cell_after m hole → k ≡ r → between g k at ≡ between (cell_after m hole) r at
+    test_is {g} {k} a b =
+        ap (λ (x : ℕ). between x k at) a ∙ ap (λ (x : ℕ). between (cell_after m hole) x at) b
 
     -- the slot may stay
     pub shift_stay : between (cell_after m hole) r at ≡ true → {i : ℕ} → i ≡ cell_after m at → Shifting home m codes s cells d hole i

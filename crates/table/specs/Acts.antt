@@ -1,12 +1,10 @@
 -- What the acts on the table leave, and what the tests of it say.
 -- Assumes nothing.
-use Rattle.std.specs.Prelude.{◌≡◌, Bool, true, false, cond, ◌||◌, ◌&&◌, ◌≢◌, ℕ, zero, suc, ◌<◌, eqb, ltb, leb, length, get_or, drop, set, replicate}
+use Rattle.std.specs.Prelude.{◌≡◌, Bool, true, false, cond, ◌||◌, ◌&&◌, ◌≢◌, ℕ, zero, suc, ◌<◌, eqb, ltb, leb, length, get_or, drop, set, replicate, Option, Some, None}
 use mathlib.Core.List.{List, [], ◌∷◌, ◌++◌, Memᴰ}
 use Rattle.head.specs.Bounds.{none_mark}
 use Rattle.table.specs.declared.Search.{Search}
 use Rattle.table.specs.declared.Search.TheVariants.{Found, Empty}
-use Rattle.table.specs.declared.Tally.{Tally}
-use Rattle.table.specs.declared.Tally.TheVariants.{All, Stray}
 use Rattle.table.specs.Cells.{sought, names}
 use Rattle.table.specs.Sound.{Gapped, In, Tidy, Sound}
 use Rattle.head.specs.Tails.{Tail}
@@ -77,13 +75,13 @@ all_below top [] = true
 all_below top (x ∷ xs) = (eqb x none_mark || ltb x top) && all_below top xs
 
 -- how many cells are not empty, if each of those holds a number below top
-unfoldable pub tallied : ℕ → List ℕ → Tally
-tallied top cells = cond (all_below top cells) (All (filled cells)) Stray
+unfoldable pub tallied : ℕ → List ℕ → Option ℕ
+tallied top cells = cond (all_below top cells) (Some (filled cells)) None
 
 -- a count says k
-unfoldable pub counts : ℕ → Tally → Bool
-counts k (All j) = eqb j k
-counts k Stray = false
+unfoldable pub counts : ℕ → Option ℕ → Bool
+counts k (Some j) = eqb j k
+counts k None = false
 
 -- the search for a slot's code ends at that slot
 abbrev pub standing : (ℕ → ℕ) → ℕ → List ℕ → List ℕ → ℕ → Bool

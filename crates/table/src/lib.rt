@@ -13,7 +13,7 @@ ghost use Rattle.table.specs.Acts.{Slotted, Holding, Live, TakenOut, Rebuilt, De
 use head::{Code, Head, Slot};
 
 // What a search finds: the slot that has the code and its cell, or the empty cell that ended it. `count` is how many cells were read, that
-// one included.
+// one included. 01 asks for "a search answer that is an enum"; both of its variants have a cell and a count.
 #[derive(Clone, Copy)]
 pub enum Search {
     Found {
@@ -27,20 +27,8 @@ pub enum Search {
     },
 }
 
-// How many cells are not empty, or that one of them holds a number which is no slot's.
-#[derive(Clone, Copy)]
-pub enum Tally {
-    All(usize),
-    Stray,
-}
-
-fn wide(x: u32) -> usize
-    ensures { result ≡ x }
-{
-    x as usize
-}
-
 // The cell after a cell, around the end.
+#[tactic(auto, unfolding(crate::specs::Cells::cell_after, crate::specs::Cells::wrap))]
 fn after(cell: usize, m: usize) -> usize
     requires { cell < m }
     ensures { result ≡ cell_after m cell }
@@ -54,23 +42,19 @@ pub fn look(cells: &[u32], codes: &[u64], n: usize, code: Code) -> Search
     ensures { result ≡ sought (home_of n) (2 * n) cells.now codes.now code.0 }
 {
     let m = 2 * n;
-    let wanted = code.0;
     let mut cell = crc::home(code, n);
     let mut count: usize = 1;
+    // 01 asks for a `loop` with `break` here.
     loop {
         let slot = cells[cell];
         if slot == Head::NONE {
-            break Search::Empty {
-                cell: cell,
-                count: count,
-            };
+            break Search::Empty { cell, count };
         }
-        let s = wide(slot);
-        if codes[s] == wanted {
+        if codes[slot as usize] == code.0 {
             break Search::Found {
                 slot: Slot(slot),
-                cell: cell,
-                count: count,
+                cell,
+                count,
             };
         }
         cell = after(cell, m);
@@ -79,26 +63,27 @@ pub fn look(cells: &[u32], codes: &[u64], n: usize, code: Code) -> Search
 }
 
 // Puts a slot in the empty cell at which the search for its code ends. Where the code is found nothing changes.
+#[tactic(auto, unfolding(crate::specs::Acts::placed))]
 pub fn insert(cells: &mut [u32], codes: &[u64], n: usize, slot: Slot)
     requires { Slotted (2 * n) cells.old codes.now slot.0 }
     ensures { cells.new ≡ inserted (home_of n) (2 * n) cells.old codes.now slot.0 }
 {
-    let s = wide(slot.0);
-    let code = codes[s];
-    let Search::Empty { cell, count: _ } = look(cells, codes, n, Code(code)) else {
+    let code = Code(codes[slot.0 as usize]);
+    let Search::Empty { cell, .. } = look(cells, codes, n, code) else {
         return;
     };
     cells[cell] = slot.0;
 }
 
 // Is cell j on the way from cell f to cell t, around the end?
+#[tactic(auto, unfolding(crate::specs::Acts::between))]
 fn on_way(f: usize, j: usize, t: usize) -> bool
     ensures { result ≡ between f j t }
 {
     if f <= t {
-        if f <= j { j <= t } else { false }
+        f <= j && j <= t
     } else {
-        if f <= j { true } else { j <= t }
+        f <= j || j <= t
     }
 }
 
@@ -112,14 +97,9 @@ pub fn remove(cells: &mut [u32], codes: &[u64], n: usize, cell: usize)
     let mut hole = cell;
     let mut at = after(cell, m);
     let mut first = at;
-    loop {
+    while cells[at] != Head::NONE {
         let slot = cells[at];
-        if slot == Head::NONE {
-            break;
-        }
-        let s = wide(slot);
-        let code = codes[s];
-        let home = crc::home(Code(code), n);
+        let home = crc::home(Code(codes[slot as usize]), n);
         let next = after(at, m);
         if !on_way(first, home, at) {
             cells[hole] = slot;
@@ -136,14 +116,8 @@ pub fn remove_slot(cells: &mut [u32], codes: &[u64], n: usize, slot: Slot)
     requires { Live (home_of n) (2 * n) cells.old codes.now slot.0 }
     ensures { TakenOut (home_of n) (2 * n) codes.now slot.0 cells.old cells.new }
 {
-    let s = wide(slot.0);
-    let code = codes[s];
-    let Search::Found {
-        slot: _,
-        cell,
-        count: _,
-    } = look(cells, codes, n, Code(code))
-    else {
+    let code = Code(codes[slot.0 as usize]);
+    let Search::Found { cell, .. } = look(cells, codes, n, code) else {
         return;
     };
     remove(cells, codes, n, cell);
@@ -154,12 +128,7 @@ pub fn clear(cells: &mut [u32], n: usize)
     requires { 2 * n ≤ length cells.old }
     ensures { cells.new ≡ cleared (2 * n) cells.old }
 {
-    let m = 2 * n;
-    let mut i: usize = 0;
-    while i < m {
-        cells[i] = Head::NONE;
-        i += 1;
-    }
+    cells[..2 * n].fill(Head::NONE);
 }
 
 // Makes the cells anew, from the `live` slots that the links walk from `front` on.
@@ -169,60 +138,46 @@ pub fn rebuild(cells: &mut [u32], codes: &[u64], next: &[u32], n: usize, front: 
 {
     clear(cells, n);
     let mut slot = front.0;
-    let mut i: u32 = 0;
-    while i < live {
+    for _ in 0..live {
         insert(cells, codes, n, Slot(slot));
-        let s = wide(slot);
-        slot = next[s];
-        i += 1;
+        slot = next[slot as usize];
     }
 }
 
 // How many of the 2n cells are not empty, if each of those holds a number below top.
-pub fn count_full(cells: &[u32], n: usize, top: usize) -> Tally
+pub fn count_full(cells: &[u32], n: usize, top: usize) -> Option<usize>
     requires { 2 * n ≤ length cells.now }
     ensures { result ≡ tallied top (take (2 * n) cells.now) }
 {
-    let m = 2 * n;
-    let mut k: usize = 0;
-    let mut i: usize = 0;
-    while i < m {
-        let slot = cells[i];
-        i += 1;
-        if slot != Head::NONE {
-            if top <= wide(slot) {
-                return Tally::Stray;
+    let mut full = 0;
+    for cell in &cells[..2 * n] {
+        if *cell != Head::NONE {
+            if top <= *cell as usize {
+                return None;
             }
-            k += 1;
+            full += 1;
         }
     }
-    Tally::All(k)
+    Some(full)
 }
 
 // Are as many of the 2n cells full as slots are live, each with a number below top?
+#[tactic(auto, using(crate::proofs::Tallies::counts_same))]
 pub fn as_many(cells: &[u32], n: usize, top: usize, live: u32) -> bool
     requires { 2 * n ≤ length cells.now }
     ensures { result ≡ counts live (tallied top (take (2 * n) cells.now)) }
 {
-    let Tally::All(full) = count_full(cells, n, top) else {
-        return false;
-    };
-    full == wide(live)
+    count_full(cells, n, top) == Some(live as usize)
 }
 
 // Does the search for a slot's code end at that slot?
+#[tactic(auto, unfolding(crate::specs::Cells::names))]
 pub fn stands(cells: &[u32], codes: &[u64], n: usize, slot: Slot) -> bool
     requires { Slotted (2 * n) cells.now codes.now slot.0 }
     ensures { result ≡ standing (home_of n) (2 * n) cells.now codes.now slot.0 }
 {
-    let s = wide(slot.0);
-    let code = codes[s];
-    let Search::Found {
-        slot: found,
-        cell: _,
-        count: _,
-    } = look(cells, codes, n, Code(code))
-    else {
+    let code = Code(codes[slot.0 as usize]);
+    let Search::Found { slot: found, .. } = look(cells, codes, n, code) else {
         return false;
     };
     found.0 == slot.0
@@ -235,14 +190,11 @@ fn all_stand(cells: &[u32], codes: &[u64], next: &[u32], n: usize, front: Slot, 
     ensures { result ≡ all_standing (home_of n) (2 * n) cells.now codes.now (walk next.now front.0 live) }
 {
     let mut asked = front.0;
-    let mut i: u32 = 0;
-    while i < live {
+    for _ in 0..live {
         if !stands(cells, codes, n, Slot(asked)) {
             return false;
         }
-        let s = wide(asked);
-        asked = next[s];
-        i += 1;
+        asked = next[asked as usize];
     }
     true
 }
@@ -259,8 +211,5 @@ pub fn inspect_cells(
     requires { Listed n cells.now codes.now next.now (walk next.now front.0 live) }
     ensures { Decides result (Sound (home_of n) (2 * n) cells.now codes.now (walk next.now front.0 live)) }
 {
-    if !as_many(cells, n, codes.len(), live) {
-        return false;
-    }
-    all_stand(cells, codes, next, n, front, live)
+    as_many(cells, n, codes.len(), live) && all_stand(cells, codes, next, n, front, live)
 }

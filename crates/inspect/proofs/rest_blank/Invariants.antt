@@ -1,14 +1,11 @@
--- `inspect::rest_blank` meets its contract. The invariant: the whole test is the test from here on. The measure: slots not tested yet.
+-- `inspect::rest_blank` meets its contract. The invariant: the whole test is the test from here on.
 -- Assumes nothing.
-use Prim.Native.Nat.{◌≤◌, ◌-◌}
+use Prim.Native.Nat.{◌-◌}
 use mathlib.Core.Path.{◌≡◌}
 use Rattle.list.specs.Inspect.{all_from}
 use Rattle.store.specs.State.{fields}
 use Rattle.inspect.specs.Tests.{blank_at}
 use Rattle.inspect.proofs.rest_blank.Given as goal
 
-abbrev pub invariant-loop-k : goal.invariant-loop-k
-invariant-loop-k l = (l.k ≤ l.n) × (all_from (l.n - l.top) l.top (blank_at (fields l.codes l.stamps l.values l.weights)) ≡ all_from (l.n - l.k) l.k (blank_at (fields l.codes l.stamps l.values l.weights)))
-
-abbrev pub decreases-loop-k : goal.decreases-loop-k
-decreases-loop-k l = l.n - l.k
+abbrev pub invariant-loop-slot : goal.invariant-loop-slot
+invariant-loop-slot l = all_from (l.n - l.top) l.top (blank_at (fields l.codes l.stamps l.values l.weights)) ≡ all_from (l.n - l.slot) l.slot (blank_at (fields l.codes l.stamps l.values l.weights))

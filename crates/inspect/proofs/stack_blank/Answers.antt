@@ -1,42 +1,28 @@
--- `inspect::stack_blank` meets its contract. The invariant: the whole test is the test from here on. The measure: places not tested yet.
+-- `inspect::stack_blank` meets its contract, place by place.
 -- Assumes nothing.
-use mathlib.Core.Path.{◌∙◌, sym}
+use mathlib.Core.Path.{◌≡◌, ◌∙◌, sym, ap}
+use Prim.Native.Nat.{◌<◌}
 use native.Mathlib.Omega.{arith}
-use Rattle.list.proofs.Tests.{all_fail, all_more, all_end, all_start}
-use Rattle.inspect.specs.Tests.{stack_blank}
+use lib.Seq.{get_or-take, length-take-le}
+use Rattle.list.proofs.Tests.{all_fail, all_more, all_end}
+use Rattle.store.specs.State.{fields}
+use Rattle.inspect.specs.Tests.{blank_at, stack_blank}
 use Rattle.inspect.proofs.stack_blank.Goals as goal
+use Rattle.inspect.proofs.stack_blank.Goals.{After-blank_at}
 
-pub loop-k-init : goal.loop-k-init
-loop-k-init c = (omega arith, all_start _ _)
-
-pub overflow_cast-s : goal.overflow_cast-s
-overflow_cast-s c = omega arith
-
-pub offset_bounds-stack-k : goal.offset_bounds-stack-k
-offset_bounds-stack-k c = omega arith
-
-pub bounds-stack-k : goal.bounds-stack-k
-bounds-stack-k c = omega arith
-
-pub blank_at-requires : goal.blank_at-requires
-blank_at-requires c = c.requires.slots _ c.loop-k-test.true
+-- what the place's slot was tested for
+tested : (c : After-blank_at) → c.blank_at.result ≡ stack_blank (fields c.args.codes.now c.args.stamps.now c.args.values.now c.args.weights.now) c.args.stack.now c.loop-slot.slot-index
+unfolding stack_blank
+tested c =
+    let a = c.args in
+    let h : c.loop-slot.slot-index < a.depth = omega (arith, length-take-le a.depth a.stack.now c.requires.long) in
+    c.blank_at.ensures ∙ ap (blank_at (fields a.codes.now a.stamps.now a.values.now a.weights.now)) (get_or-take a.depth a.stack.now c.loop-slot.slot-index 0 h)
 
 pub returns-then-not-blank_at : goal.returns-then-not-blank_at
-unfolding stack_blank
-returns-then-not-blank_at c = sym (c.loop-k.invariant.1 ∙ all_fail _ _ _ c.loop-k-test.true (sym c.blank_at.ensures ∙ c.if-not-blank_at.true))
+returns-then-not-blank_at c = sym (c.loop-slot.invariant ∙ all_fail _ _ _ (omega (arith, length-take-le c.args.depth c.args.stack.now c.requires.long)) (sym (tested (goal.at.returns-then-not-blank_at c).After-blank_at) ∙ c.if-not-blank_at.true))
 
-pub overflow_add-k : goal.overflow_add-k
-overflow_add-k c = omega arith
-
-pub loop-k-smaller : goal.loop-k-smaller
-loop-k-smaller c = omega arith
-
-pub loop-k-preserved : goal.loop-k-preserved
-unfolding stack_blank
-loop-k-preserved c = (
-  omega arith,
-  c.loop-k.invariant.1 ∙ all_more _ _ _ c.loop-k-test.true (sym c.blank_at.ensures ∙ c.if-not-blank_at.false),
-)
+pub loop-slot-preserved : goal.loop-slot-preserved
+loop-slot-preserved c = c.loop-slot.invariant ∙ all_more _ _ _ (omega (arith, length-take-le c.args.depth c.args.stack.now c.requires.long)) (sym (tested (goal.at.loop-slot-preserved c).After-blank_at) ∙ c.if-not-blank_at.false)
 
 pub returns : goal.returns
-returns c = sym (c.loop-k.invariant.1 ∙ all_end _ _ _ c.loop-k-test.false)
+returns c = sym (c.loop-slot.invariant ∙ all_end _ _ _ (omega (arith, length-take-le c.args.depth c.args.stack.now c.requires.long)))

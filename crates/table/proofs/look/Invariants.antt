@@ -6,8 +6,8 @@ use Rattle.crc.specs.Home.{home_of}
 use Rattle.table.proofs.Seek.{Seeking}
 use Rattle.table.proofs.look.Given as goal
 
-abbrev pub invariant-loop-slot : goal.invariant-loop-slot
-invariant-loop-slot l = (l.initial.cell ≡ home_of l.n l.wanted) × Seeking l.cells l.codes l.m l.initial.cell l.wanted l.cell l.count
+abbrev pub invariant-loop-code : goal.invariant-loop-code
+invariant-loop-code l = (l.initial.cell ≡ home_of l.n l.code.0) × Seeking l.cells l.codes l.m l.initial.cell l.code.0 l.cell l.count
 
-abbrev pub decreases-loop-slot : goal.decreases-loop-slot
-decreases-loop-slot l = l.m + 1 - l.count
+abbrev pub decreases-loop-code : goal.decreases-loop-code
+decreases-loop-code l = l.m + 1 - l.count

@@ -8,8 +8,8 @@ use Rattle.table.proofs.Between.{far}
 use Rattle.table.proofs.Shift.{Shifting, gap_of}
 use Rattle.table.proofs.remove.Given as goal
 
-abbrev pub invariant-loop-slot : goal.invariant-loop-slot
-invariant-loop-slot l = (l.first ≡ cell_after l.m l.hole) × (Shifting (home_of l.n) l.m l.codes (get_or l.initial.cells l.cell 0) l.initial.cells l.cells l.hole l.at)
+abbrev pub invariant-loop-cells : goal.invariant-loop-cells
+invariant-loop-cells l = (l.first ≡ cell_after l.m l.hole) × (Shifting (home_of l.n) l.m l.codes (get_or l.initial.cells l.cell 0) l.initial.cells l.cells l.hole l.at)
 
-abbrev pub decreases-loop-slot : goal.decreases-loop-slot
-decreases-loop-slot l = far l.m (gap_of l.m l.initial.cells) l.at
+abbrev pub decreases-loop-cells : goal.decreases-loop-cells
+decreases-loop-cells l = far l.m (gap_of l.m l.initial.cells) l.at
