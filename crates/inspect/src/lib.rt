@@ -8,11 +8,13 @@ ghost use Rattle.crc.specs.Home.{home_of};
 ghost use Rattle.list.specs.Inspect.{all_from, walk_ok, cell_ok, links_ok};
 ghost use Rattle.table.specs.Sound.{Gapped};
 ghost use Rattle.table.specs.Acts.{Decides, tallied, counts};
-ghost use Rattle.store.specs.State.{Whole, fields};
+ghost use Rattle.state.specs.State.{seen, viewed};
+ghost use Rattle.store.specs.State.{Sound};
 ghost use Rattle.store.specs.Acts.{Writable};
 ghost use Rattle.inspect.specs.Tests.{head_ok, used_stands, sum_ok, is_at, blank_at, stack_blank, Piled};
 
 use head::{Code, Head, Place, Slot};
+use state::{FieldsView, View};
 
 // Whether the head's numbers fit each other.
 #[tactic(auto, unfolding(crate::specs::Tests::head_ok))]
@@ -174,28 +176,21 @@ fn weights_ok(weights: &[u64], n: u32, weight: u64) -> bool
 
 // Whether a slot's four fields are 0.
 #[tactic(auto, unfolding(crate::specs::Tests::blank_at))]
-fn blank_at(codes: &[u64], stamps: &[u32], values: &[u64], weights: &[u64], u: u32) -> bool
-    requires { Writable u (fields codes.now stamps.now values.now weights.now) }
-    ensures { result ≡ blank_at (fields codes.now stamps.now values.now weights.now) u }
+fn blank_at(fields: &FieldsView<'_>, u: u32) -> bool
+    requires { Writable u (viewed fields.now) }
+    ensures { result ≡ blank_at (viewed fields.now) u }
 {
     let i = u as usize;
-    codes[i] == 0 && stamps[i] == 0 && values[i] == 0 && weights[i] == 0
+    fields.codes[i] == 0 && fields.stamps[i] == 0 && fields.values[i] == 0 && fields.weights[i] == 0
 }
 
 // Whether each of the stack's slots is blank.
-fn stack_blank(
-    codes: &[u64],
-    stamps: &[u32],
-    values: &[u64],
-    weights: &[u64],
-    stack: &[u32],
-    depth: u32,
-) -> bool
-    requires { Piled (fields codes.now stamps.now values.now weights.now) stack.now depth }
-    ensures { result ≡ all_from depth 0 (stack_blank (fields codes.now stamps.now values.now weights.now) stack.now) }
+fn stack_blank(fields: &FieldsView<'_>, stack: &[u32], depth: u32) -> bool
+    requires { Piled (viewed fields.now) stack.now depth }
+    ensures { result ≡ all_from depth 0 (stack_blank (viewed fields.now) stack.now) }
 {
     for slot in &stack[..depth as usize] {
-        if !blank_at(codes, stamps, values, weights, *slot) {
+        if !blank_at(fields, *slot) {
             return false;
         }
     }
@@ -203,19 +198,12 @@ fn stack_blank(
 }
 
 // Whether each slot from top up to n is blank.
-fn rest_blank(
-    codes: &[u64],
-    stamps: &[u32],
-    values: &[u64],
-    weights: &[u64],
-    top: u32,
-    n: u32,
-) -> bool
-    requires { (top ≤ n) × Reach n (fields codes.now stamps.now values.now weights.now) }
-    ensures { result ≡ all_from (n - top) top (blank_at (fields codes.now stamps.now values.now weights.now)) }
+fn rest_blank(fields: &FieldsView<'_>, top: u32, n: u32) -> bool
+    requires { (top ≤ n) × Reach n (viewed fields.now) }
+    ensures { result ≡ all_from (n - top) top (blank_at (viewed fields.now)) }
 {
     for slot in top..n {
-        if !blank_at(codes, stamps, values, weights, slot) {
+        if !blank_at(fields, slot) {
             return false;
         }
     }
@@ -224,37 +212,19 @@ fn rest_blank(
 
 // Whether head and lists describe a cache, whatever they hold. One walk over the links, one search for each slot in use, in the order of slots, some 6N plain
 // steps besides, and no list of its own.
-pub fn inspect(
-    head: Head,
-    codes: &[u64],
-    stamps: &[u32],
-    values: &[u64],
-    weights: &[u64],
-    next: &[u32],
-    prev: &[u32],
-    stack: &[u32],
-    cells: &[u32],
-) -> bool
-    ensures { Decides result (Whole head (fields codes.now stamps.now values.now weights.now) next.now prev.now stack.now cells.now) }
+pub fn inspect(view: &View<'_>) -> bool
+    ensures { Decides result (Sound (seen view.now)) }
 {
+    let head = view.head;
     let n = head.slots;
     let top = head.top.0;
+    let next = view.links.next;
     head_ok(head)
-        && store::long_enough(
-            n,
-            codes.len(),
-            stamps.len(),
-            values.len(),
-            weights.len(),
-            next.len(),
-            prev.len(),
-            stack.len(),
-            cells.len(),
-        )
-        && links_ok(head, next, prev, stack)
-        && cells_full(cells, n, head.live)
-        && table_ok(cells, codes, next, n as usize, top)
-        && weights_ok(weights, n, head.weight)
-        && stack_blank(codes, stamps, values, weights, stack, head.depth.0)
-        && rest_blank(codes, stamps, values, weights, top, n)
+        && store::long_enough(n, view)
+        && links_ok(head, next, view.links.prev, view.links.stack)
+        && cells_full(view.cells, n, head.live)
+        && table_ok(view.cells, view.fields.codes, next, n as usize, top)
+        && weights_ok(view.fields.weights, n, head.weight)
+        && stack_blank(&view.fields, view.links.stack, head.depth.0)
+        && rest_blank(&view.fields, top, n)
 }

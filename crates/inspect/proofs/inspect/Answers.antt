@@ -5,19 +5,17 @@ use mathlib.Core.Path.{◌≡◌}
 use native.Mathlib.Omega.{arith}
 use Rattle.std.proofs.lemmas.Grind.{common_steps}
 use Rattle.list.specs.Inspect.{links_ok}
-use Rattle.store.specs.State.{fields}
-use Rattle.store.specs.Lengths.{all_long}
+use Rattle.state.specs.State.{seen, viewed}
+use Rattle.store.specs.Lengths.{spacious}
 use Rattle.inspect.specs.Tests.{head_ok}
 use Rattle.inspect.proofs.Decided.{Framed, decided, framed, ready, searchable}
 use Rattle.inspect.proofs.inspect.Goals as goal
 use Rattle.inspect.proofs.inspect.Goals.{Start}
 
 -- what the first three tests say
-three : (c : Start)
-    → head_ok c.args.head ≡ true
-    → all_long c.args.head.slots (fields c.args.codes.now c.args.stamps.now c.args.values.now c.args.weights.now) c.args.next.now c.args.prev.now c.args.stack.now c.args.cells.now ≡ true
-    → links_ok c.args.head c.args.next.now c.args.prev.now c.args.stack.now ≡ true
-    → Framed c.args.head (fields c.args.codes.now c.args.stamps.now c.args.values.now c.args.weights.now) c.args.next.now c.args.prev.now c.args.stack.now c.args.cells.now
+three : (c : Start) → head_ok c.args.view.now.head ≡ true → spacious c.args.view.now.head.slots (seen c.args.view.now) ≡ true
+    → links_ok c.args.view.now.head c.args.view.now.links.next.now c.args.view.now.links.prev.now c.args.view.now.links.stack.now ≡ true
+    → Framed c.args.view.now.head (viewed c.args.view.now.fields) c.args.view.now.links.next.now c.args.view.now.links.prev.now c.args.view.now.links.stack.now c.args.view.now.cells.now
 three c = framed _ _ _ _ _ _
 
 pub cells_full-requires : goal.cells_full-requires
