@@ -1,5 +1,7 @@
 -- Runs of `door::call` and of the script's turns are runs of the public calls: each from an accepted opening on is a day, of which the demands hold.
 -- Assumes nothing.
+use Rattle.std.specs.Prelude.{Result, Ok}
+use Rattle.head.specs.declared.Head.{Head}
 use Prim.Native.Nat.{ℕ}
 use mathlib.Core.List.{List, [], ◌∷◌}
 use mathlib.Core.Path.{◌≡◌, refl, sym, ap, ◌∙◌, subst}
@@ -11,8 +13,6 @@ use Rattle.head.specs.Fields.{Fields}
 use Rattle.head.specs.Fresh.{fresh_head}
 use Rattle.model.specs.Perform.{Opening, opening, refused, opened}
 use Rattle.plan.specs.States.{State}
-use Rattle.opening.specs.declared.Opened.{Opened}
-use Rattle.opening.specs.declared.Opened.TheVariants.{Cache as Began}
 use Rattle.opening.specs.Begun.{spacious, Opens}
 use Rattle.script_read.specs.declared.Line.{Line}
 use Rattle.script_read.specs.declared.Line.TheVariants.{Open, Call, Unknown}
@@ -31,8 +31,8 @@ door_run s [] r = tt
 door_run s (a ∷ as') r = (call_contract r.0, door_run a.left as' r.1)
 
 -- and so a day, from an opening on that gave a cache
-pub door_day : {kind c n : ℕ} (lists begun : State) (said : Opened) (calls : List Made) → lists.head ≡ fresh_head kind c n → Opens kind c n lists begun said
-    → said ≡ Began begun.head
+pub door_day : {kind c n : ℕ} (lists begun : State) (said : Result Head Refusal) (calls : List Made) → lists.head ≡ fresh_head kind c n → Opens kind c n lists begun said
+    → said ≡ Ok begun.head
     → DoorRun begun calls
     → Day kind c n
 door_day lists begun said calls h o g r = record {
@@ -90,7 +90,7 @@ unopened kind c n s = record {
 
 -- an opening that was accepted keeps `open`'s contract
 script_opens : (kind c n : ℕ) {s t : State} {lent rows : Fields} {a : Answer} → Turns (Open kind c n) s t lent rows a → a ≡ Done 0
-    → Opens kind c n (unopened kind c n s) t (Began t.head)
+    → Opens kind c n (unopened kind c n s) t (Ok t.head)
 script_opens kind c n x e = record {
   opens = λ y q. (refl, (x.0.opens y q).1, (x.0.opens y q).2);
   refuses = λ r q. absurd (not_done r (sym e ∙ (x.0.refuses r q).0));
@@ -107,7 +107,7 @@ script_day kind c n {s} {t} x e as' r = record {
   lists = unopened kind c n s;
   numbers = refl;
   begun = t;
-  said = Began t.head;
+  said = Ok t.head;
   opens = script_opens kind c n x e;
   gave = refl;
   calls = calls_in as';

@@ -1,5 +1,6 @@
 -- A run of the exported functions from an accepted opening on is a day, of which the demands hold.
 -- Assumes nothing.
+use Rattle.std.specs.Prelude.{Ok}
 use Prim.Native.Nat.{ℕ, ◌≤◌}
 use mathlib.Core.Bool.{Bool, true, false, ◌&&◌}
 use mathlib.Core.List.{List, [], ◌∷◌}
@@ -23,7 +24,6 @@ use Rattle.model.proofs.Cases.{split}
 use Rattle.model.proofs.Refusing.{never_2}
 use Rattle.plan.specs.States.{State, state, Sound}
 use Rattle.door.specs.Served.{Calls, Tells, is_teller, shortest}
-use Rattle.opening.specs.declared.Opened.TheVariants.{Cache as Began}
 use Rattle.opening.specs.Begun.{spacious, Opens}
 use Rattle.layout.specs.Heads.{head_in, head_of, head_left}
 use Rattle.layout.specs.Commands.{command_in}
@@ -155,7 +155,7 @@ module _ {kind c n : ℕ} {head head' codes stamps values weights nexts prevs st
       subst (λ (k : ℕ). Opens k c n (state (fresh_head k c n) codes stamps values weights nexts prevs stack cells) (state (fresh_head k c n) codes' stamps' values' weights' nexts' prevs' stack' cells') x.said)
       same x.opens
 
-  gave : x.said ≡ Began (fresh_head kind c n)
+  gave : x.said ≡ Ok (fresh_head kind c n)
   unfolding opening
   gave =
       split (allowed kind c n && spacious n given)

@@ -1,5 +1,8 @@
 -- A run from opening: the first state means the fresh cache, and every call gives what the definitions say.
 -- Assumes nothing.
+use Rattle.std.specs.Prelude.{Result, Ok}
+use Rattle.head.specs.declared.Refusal.{Refusal}
+use Rattle.head.specs.declared.Head.{Head}
 use Prim.Native.Nat.{ℕ}
 use mathlib.Core.Bool.{true, ◌&&◌}
 use mathlib.Core.Path.{◌≡◌}
@@ -10,8 +13,6 @@ use Rattle.model.specs.Desk.{kind_of}
 use Rattle.model.specs.Perform.{fresh, opening}
 use Rattle.model.proofs.Cases.{split, both}
 use Rattle.plan.specs.States.{State, Means, TailsKept}
-use Rattle.opening.specs.declared.Opened.{Opened}
-use Rattle.opening.specs.declared.Opened.TheVariants.{Cache as Began}
 use Rattle.opening.specs.Begun.{spacious, Opens}
 use Rattle.demands.specs.Runs.{Day}
 use Rattle.demands.specs.Demands.{ReadOff}
@@ -23,7 +24,7 @@ pub record Fresh (kind c n : ℕ) (s t : State) : Type 0 where
   pub means : Means t (fresh (kind_of kind) c n)
   pub tails : TailsKept s t
 
-pub opened_fresh : (kind c n : ℕ) (s t : State) (r : Opened) → Opens kind c n s t r → r ≡ Began t.head → Fresh kind c n s t
+pub opened_fresh : (kind c n : ℕ) (s t : State) (r : Result Head Refusal) → Opens kind c n s t r → r ≡ Ok t.head → Fresh kind c n s t
 unfolding opening
 opened_fresh kind c n s t r o g =
     split (allowed kind c n && spacious n s)

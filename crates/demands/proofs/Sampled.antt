@@ -1,5 +1,6 @@
 -- The sample run keeps the contracts, and the keeper beside it keeps its rule: so demand 3's hypotheses can be met.
 -- Assumes nothing.
+use Rattle.std.specs.Prelude.{Ok}
 use Prim.Native.Nat.{ℕ, ◌*◌, ◌≤◌}
 use mathlib.Core.Bool.{true, false, false≢true}
 use mathlib.Core.List.{List, [], ◌∷◌}
@@ -28,7 +29,6 @@ use Rattle.store.specs.Acts.{Tails}
 use Rattle.rows.specs.Written.{Written}
 use Rattle.plan.specs.States.{Means}
 use Rattle.door.specs.Served.{Reads, Serves, Calls}
-use Rattle.opening.specs.declared.Opened.TheVariants.{Cache as Began}
 use Rattle.opening.specs.Begun.{Opens}
 use Rattle.demands.specs.Runs.{Run, Day}
 use Rattle.demands.specs.Counts.{Requests, new_answers, Keeps}
@@ -139,7 +139,7 @@ pub run₈ : Run state₀ calls₈
 run₈ = (put_1, (put_2, ((peek_1, refl, refl), ((get_1, refl), (put_3, ((get_9, refl), ((contains_2, refl, refl), (put_2_again, tt))))))))
 
 -- `open` on lists that hold anything
-pub opened₀ : Opens plain_kind 2 2 lists₀ state₀ (Began state₀.head)
+pub opened₀ : Opens plain_kind 2 2 lists₀ state₀ (Ok state₀.head)
 unfolding opening walk
 opened₀ = record {
   opens = λ x e. (refl, subst (Means state₀) (opened_one e) (means_computed state₀ sound₀), record { codes = tail₂; stamps = tail₂; values = tail₂; weights = tail₂; nexts = tail₂; prevs = tail₂; stacks = tail₂; table = tail₄ });
@@ -153,7 +153,7 @@ opened₀ = record {
     opened_not e = let z : ◌≡◌ {A = ℕ} 0 1 = cc in omega arith
 
 abbrev pub day₈ : Day plain_kind 2 2
-day₈ = record { lists = lists₀; numbers = refl; begun = state₀; said = Began state₀.head; opens = opened₀; gave = refl; calls = calls₈; run = run₈ }
+day₈ = record { lists = lists₀; numbers = refl; begun = state₀; said = Ok state₀.head; opens = opened₀; gave = refl; calls = calls₈; run = run₈ }
 
 single : (x : ℕ) → Distinct (x ∷ [])
 single x y = split (eqb y x) (λ e. rw e (omega arith)) (λ e. rw e (omega arith))

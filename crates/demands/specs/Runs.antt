@@ -1,5 +1,8 @@
 -- A run of the public calls of crate cache: each call keeps its own contract, handed head and lists as the call before left them.
 -- Assumes nothing.
+use Rattle.std.specs.Prelude.{Result, Ok}
+use Rattle.head.specs.declared.Refusal.{Refusal}
+use Rattle.head.specs.declared.Head.{Head}
 use Rattle.std.specs.Prelude.{ℕ, List, [], ◌∷◌, ◌≡◌}
 use Rattle.head.specs.declared.Answer.{Answer}
 use Rattle.head.specs.declared.Command.{Command}
@@ -10,8 +13,6 @@ use Rattle.head.specs.Forms.{form_of}
 use Rattle.head.specs.Fresh.{fresh_head}
 use Rattle.plan.specs.States.{State}
 use Rattle.door.specs.Served.{Reads, Tells, Serves, Calls, shortest}
-use Rattle.opening.specs.declared.Opened.{Opened}
-use Rattle.opening.specs.declared.Opened.TheVariants.{Cache as Began}
 use Rattle.opening.specs.Begun.{Opens}
 
 -- the contract of a call: from the state s to the state t, from the row lists `rows` to `rows'`, with the answer a; what a call does not take, it leaves
@@ -68,8 +69,8 @@ pub record Day (kind c n : ℕ) : Type 0 where
   pub lists : State
   pub numbers : lists.head ≡ fresh_head kind c n
   pub begun : State
-  pub said : Opened
+  pub said : Result Head Refusal
   pub opens : Opens kind c n lists begun said
-  pub gave : said ≡ Began begun.head
+  pub gave : said ≡ Ok begun.head
   pub calls : List Made
   pub run : Run begun calls

@@ -1,5 +1,6 @@
 -- From the callees' promises to those of the exported functions.
 -- Assumes nothing.
+use Rattle.std.specs.Prelude.{Result, Ok, Err}
 use Prim.Native.Nat.{ℕ, ◌<◌, ◌≤◌}
 use mathlib.Core.List.{List}
 use mathlib.Core.Path.{◌≡◌, refl, sym, ap, subst, ◌∙◌}
@@ -14,8 +15,6 @@ use Rattle.head.specs.Fresh.{fresh_head}
 use Rattle.head.specs.Refusals.{number_of}
 use Rattle.plan.specs.States.{state}
 use Rattle.door.specs.Served.{Calls, Tells}
-use Rattle.opening.specs.declared.Opened.{Opened}
-use Rattle.opening.specs.declared.Opened.TheVariants.{Cache as Began, No}
 use Rattle.opening.specs.Begun.{Opens}
 use Rattle.layout.specs.Heads.{head_left}
 use Rattle.layout.specs.Numbered.{numbers_of, numbers_left}
@@ -27,13 +26,13 @@ kind_none kind room h = rw (lt-ltb room 9 h) refl
 pub kind_given : (kind room : ℕ) → 9 ≤ room → kind ≡ kind_for kind room
 kind_given kind room h = rw (le-ltb room 9 h) refl
 
-pub opened_began : (l : List ℕ) {m : List ℕ} (o : Opened) (h : Head) → o ≡ Began h → m ≡ head_left 0 l h → (0 ≡ opened_number o) × (m ≡ opened_left l o)
+pub opened_began : (l : List ℕ) {m : List ℕ} (o : Result Head Refusal) (h : Head) → o ≡ Ok h → m ≡ head_left 0 l h → (0 ≡ opened_number o) × (m ≡ opened_left l o)
 opened_began l o h e f = (sym (ap opened_number e), f ∙ sym (ap (opened_left l) e))
 
-pub opened_none : (l : List ℕ) (o : Opened) (r : Refusal) {k : ℕ} → o ≡ No r → k ≡ number_of r → (k ≡ opened_number o) × (l ≡ opened_left l o)
+pub opened_none : (l : List ℕ) (o : Result Head Refusal) (r : Refusal) {k : ℕ} → o ≡ Err r → k ≡ number_of r → (k ≡ opened_number o) × (l ≡ opened_left l o)
 opened_none l o r e f = (f ∙ sym (ap opened_number e), sym (ap (opened_left l) e))
 
-pub opening : (kind c n : ℕ) (head head' codes stamps values weights nexts prevs stack cells codes' stamps' values' weights' nexts' prevs' stack' cells' : List ℕ) (k : ℕ) (o : Opened) {r : ℕ}
+pub opening : (kind c n : ℕ) (head head' codes stamps values weights nexts prevs stack cells codes' stamps' values' weights' nexts' prevs' stack' cells' : List ℕ) (k : ℕ) (o : Result Head Refusal) {r : ℕ}
     → k ≡ kind_for kind (length head)
     → Opens k c n (state (fresh_head k c n) codes stamps values weights nexts prevs stack cells) (state (fresh_head k c n) codes' stamps' values' weights' nexts' prevs' stack' cells') o
     → (r ≡ opened_number o) × (head' ≡ opened_left head o)

@@ -1,5 +1,8 @@
 -- One outcome, read off for every public call: `cache::NAME` is the promise of its command in crates/door/specs/Served.antt, and `door::call` is `Calls` of any.
 -- Assumes nothing.
+use Rattle.std.specs.Prelude.{Result}
+use Rattle.head.specs.declared.Refusal.{Refusal}
+use Rattle.head.specs.declared.Head.{Head}
 use Prim.Native.Nat.{ℕ}
 use mathlib.Core.Path.{◌≡◌, refl}
 use mathlib.Core.List.{List}
@@ -12,13 +15,12 @@ use Rattle.head.specs.Fields.{Fields}
 use Rattle.head.specs.Fresh.{fresh_head}
 use Rattle.plan.specs.States.{State, state}
 use Rattle.door.specs.Served.{Serves, Calls, Tells, Reads}
-use Rattle.opening.specs.declared.Opened.{Opened}
 use Rattle.opening.specs.Begun.{Opens}
 use Rattle.outcomes.specs.Agreed.{Agree}
 use Rattle.outcomes.proofs.Same.{one_serve, one_call, one_tell, one_read, one_open}
 
 -- `cache::open`: the state before has the fresh head and the lists as they were lent
-pub open_one : {kind c n : ℕ} {codes stamps values weights nexts prevs stack cells : List ℕ} {t u : State} {r q : Opened}
+pub open_one : {kind c n : ℕ} {codes stamps values weights nexts prevs stack cells : List ℕ} {t u : State} {r q : Result Head Refusal}
     → Opens kind c n (state (fresh_head kind c n) codes stamps values weights nexts prevs stack cells) t r
     → Opens kind c n (state (fresh_head kind c n) codes stamps values weights nexts prevs stack cells) u q
     → (r ≡ q) × Agree t u

@@ -1,5 +1,7 @@
 -- The contract of every call admits one outcome: one answer, one set of rows, and states that differ in the cells at most.
 -- Assumes nothing.
+use Rattle.std.specs.Prelude.{Result, Ok}
+use Rattle.head.specs.declared.Head.{Head}
 use Prim.Native.Nat.{ℕ}
 use mathlib.Core.Bool.{Bool, true, false, cond, ◌&&◌}
 use mathlib.Core.Logic.{⊎_elim}
@@ -19,8 +21,6 @@ use Rattle.plan.specs.States.{State, Means, TailsKept, Alike}
 use Rattle.plan.specs.Plans.{cells_stay}
 use Rattle.plan.proofs.Likeness.{alike_self, alike_left}
 use Rattle.door.specs.Served.{Follows, Serves, Calls, Tells, Reads}
-use Rattle.opening.specs.declared.Opened.{Opened}
-use Rattle.opening.specs.declared.Opened.TheVariants.{Cache as Began}
 use Rattle.opening.specs.Begun.{spacious, Opens}
 use Rattle.outcomes.specs.Agreed.{Agree}
 use Rattle.outcomes.proofs.Decided.{sound?}
@@ -116,7 +116,7 @@ unfolding opening room_of
 opened_room kind c n long x e = sym (ap (room_of n) e) ∙ room_test n (allowed kind c n && long) (fresh (kind_of kind) c n) NotOpened refl
 
 -- `open`: one answer, and states that agree, where the state's head asks for as many slots as the call
-pub one_open : {kind c n : ℕ} {s t u : State} {r q : Opened} → s.head.slots ≡ n → Opens kind c n s t r → Opens kind c n s u q → (r ≡ q) × Agree t u
+pub one_open : {kind c n : ℕ} {s t u : State} {r q : Result Head Refusal} → s.head.slots ≡ n → Opens kind c n s t r → Opens kind c n s u q → (r ≡ q) × Agree t u
 one_open {kind} {c} {n} {s} {t} {u} {r} {q} k x y = by (opening kind c n (spacious n s)) refl
   where
     by : (o : Opening) → opening kind c n (spacious n s) ≡ o → (r ≡ q) × Agree t u
@@ -125,4 +125,4 @@ one_open {kind} {c} {n} {s} {t} {u} {r} {q} k x y = by (opening kind c n (spacio
         let f = x.opens b z in
         let g = y.opens b z in
         let h : Agree t u = one_left s f.1 g.1 (k ∙ sym (opened_room kind c n (spacious n s) b z)) f.2 g.2 in
-        (f.0 ∙ ap Began (sym h.alike.head) ∙ sym g.0, h)
+        (f.0 ∙ ap (λ (x : Head). Ok x) (sym h.alike.head) ∙ sym g.0, h)

@@ -1,5 +1,6 @@
 -- Wrong answers that the contracts of `open` and of the door's `call` rule out. The samples stand in specs/Samples.antt.
 -- Assumes nothing.
+use Rattle.std.specs.Prelude.{Result, Ok, Err}
 use mathlib.Core.Bool.{Bool, true, false, true≢false}
 use mathlib.Core.List.{List, [], ◌∷◌}
 use mathlib.Core.Path.{◌≡◌, refl, sym, ap, ◌∙◌}
@@ -18,38 +19,36 @@ use Rattle.model.specs.Perform.{Cache, opening, verdict, perform}
 use Rattle.store.proofs.Settled.{one_cache}
 use Rattle.plan.specs.States.{State, Means, Sound}
 use Rattle.door.specs.Served.{Calls}
-use Rattle.opening.specs.declared.Opened.{Opened}
-use Rattle.opening.specs.declared.Opened.TheVariants.{Cache as Began, No}
 use Rattle.opening.specs.Begun.{spacious, Opens}
 use Rattle.outcomes.specs.Samples.{Shows, code, row10, roomy, bare, lists}
 use Rattle.outcomes.proofs.Ruled.{answer_not, call_says}
 
 -- whether it was opened
-began : Opened → Bool
-began (Began h) = true
-began (No e) = false
+began : Result Head Refusal → Bool
+began (Ok h) = true
+began (Err e) = false
 
 -- ---- `open`
 
 -- refused where kind, capacity, slots and lists are as they should be
-pub open_refuses : {s t : State} {r : Opened} → Opens 0 3 4 s t r → spacious 4 s ≡ true → r ≡ No NotOpened → ⊥
+pub open_refuses : {s t : State} {r : Result Head Refusal} → Opens 0 3 4 s t r → spacious 4 s ≡ true → r ≡ Err NotOpened → ⊥
 unfolding opening began
 open_refuses x l e = true≢false (sym (ap began (x.opens bare (ap (opening 0 3 4) l)).0) ∙ ap began e)
 
 -- an entry left over from what the lists held before
-pub open_keeps : {s t : State} {r : Opened} → Opens 0 3 4 s t r → spacious 4 s ≡ true → Shows t (row10 ∷ []) → ⊥
+pub open_keeps : {s t : State} {r : Result Head Refusal} → Opens 0 3 4 s t r → spacious 4 s ≡ true → Shows t (row10 ∷ []) → ⊥
 unfolding opening
 open_keeps x l w =
     let e = ap (λ (y : Cache). length y.desk.entries) (one_cache (x.opens bare (ap (opening 0 3 4) l)).1 w.means) ∙ ap (λ (y : List Row). length y) w.entries in
     omega (arith, e)
 
 -- opened with a capacity of 0
-pub open_none : {s t : State} {r : Opened} {h : Head} → Opens 0 0 4 s t r → r ≡ Began h → ⊥
+pub open_none : {s t : State} {r : Result Head Refusal} {h : Head} → Opens 0 0 4 s t r → r ≡ Ok h → ⊥
 unfolding opening began
 open_none x e = true≢false (sym (ap began e) ∙ ap began (x.refuses NotOpened refl).0)
 
 -- opened in lists that are too short
-pub open_short : {s t : State} {r : Opened} {h : Head} → Opens 0 3 4 s t r → spacious 4 s ≡ false → r ≡ Began h → ⊥
+pub open_short : {s t : State} {r : Result Head Refusal} {h : Head} → Opens 0 3 4 s t r → spacious 4 s ≡ false → r ≡ Ok h → ⊥
 unfolding opening began
 open_short x l e = true≢false (sym (ap began e) ∙ ap began (x.refuses NotOpened (ap (opening 0 3 4) l)).0)
 
