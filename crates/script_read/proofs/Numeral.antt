@@ -8,7 +8,7 @@ use native.Mathlib.Omega.{arith}
 use lib.Dec.{ltb}
 use borrow.Author.Tests.{lt-ltb, le-leb, ltb-true}
 use Rattle.script_digits.specs.Decimal.{digit_byte, digits_before, digits_of, is_digit, all_digits, is_numeral, value_after, value_of}
-use Rattle.script_read.specs.declared.Number.TheVariants.{Value}
+use Rattle.std.specs.Prelude.{Some}
 use Rattle.script_read.specs.Numerals.{most_wide, number_of}
 
 split : {P : Type 0} (b : Bool) → (b ≡ true → P) → (b ≡ false → P) → P
@@ -54,6 +54,6 @@ unfolding digits_of
 numeral_digits n = digits_numeral 19 n
 
 -- the digits of a number are read as that number
-pub number_digits : (n : ℕ) → n ≤ most_wide → number_of (digits_of n) ≡ Value n
+pub number_digits : (n : ℕ) → n ≤ most_wide → number_of (digits_of n) ≡ Some n
 unfolding number_of
 number_digits n h = rw (numeral_digits n, value_digits n h, le-leb n most_wide h)

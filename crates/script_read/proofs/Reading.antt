@@ -1,83 +1,127 @@
--- The loops over the bytes of a line: where a word ends, whether it is a keyword, and what number it is.
+-- The bytes of a line: its first word, whether a word is a keyword, and what number it is.
 -- Assumes nothing.
-use Prim.Native.Nat.{ℕ, zero, suc, ◌+◌, ◌-◌, ◌*◌, ◌/◌, ◌≤◌, ◌<◌}
+use Prim.Native.Nat.{ℕ, suc, ◌+◌, ◌-◌, ◌*◌, ◌≤◌, ◌<◌}
 use mathlib.Core.Bool.{Bool, true, false, cond, ◌&&◌}
 use mathlib.Core.List.{List, [], ◌∷◌}
 use mathlib.Core.Path.{◌≡◌, refl, sym, ap, ◌∙◌}
 use native.Mathlib.Numerals.{add-one}
 use native.Mathlib.Omega.{arith}
-use lib.Dec.{eqb, leb, eqb-zero-suc, eqb-suc-suc}
-use lib.ListN.{length, drop, get_or}
-use lib.Seq.{slice, slice_empty, slice-cons, drop-cons, drop-length}
-use borrow.Author.Tests.{eq-eqb, ne_eqb, le-leb, lt-leb}
-use Rattle.script_digits.specs.Decimal.{all_digits, value_after}
-use Rattle.script_read.specs.declared.Number.{Number}
-use Rattle.script_read.specs.declared.Number.TheVariants.{Value, Wrong}
+use lib.Dec.{eqb, ltb, leb, eqb-zero-suc, eqb-suc-suc}
+use lib.ListN.{length, take, drop, get_or}
+use lib.Seq.{drop-cons}
+use borrow.Author.Tests.{ne_eqb, le-leb, lt-leb, ltb-false}
+use denote.Ref.{Bor}
+use Rattle.head.specs.declared.Command.{Command}
+use Rattle.std.specs.Prelude.{Option, Some, None, nat_eq}
+use Rattle.std.specs.List.{position_or_len, position, find}
+use Rattle.std.specs.Option.{unwrap_or, option_map}
+use Rattle.std.specs.Cmp.Lexicographic.{pointwise}
+use Rattle.std.proofs.lemmas.List.{at_drop_all}
+use Rattle.std.proofs.lemmas.List.Sums.{prefix_len-le-length}
+use Rattle.script_digits.specs.Decimal.{is_digit, all_digits, value_after}
+use Rattle.script_read.specs.declared.Line.{Line}
+use Rattle.script_read.specs.declared.Line.TheVariants.{Call}
 use Rattle.script_read.specs.declared.Numbers.{Numbers}
-use Rattle.script_read.specs.declared.Numbers.TheVariants.{Others}
 use Rattle.script_read.specs.Keywords.{same}
-use Rattle.script_read.specs.Words.{space, words_of, words_past, Ends}
-use Rattle.script_read.specs.Numerals.{most_wide, number_of, with_one, numbers_after}
+use Rattle.script_read.specs.Words.{space, words_of, words_past}
+use Rattle.script_read.specs.Numerals.{most_wide, number_of, with_one, where_number, numbers_after}
+use Rattle.script_read.specs.Grammar.{if_call, call_named}
 
--- ---- where a word ends
+split : {P : Type 0} (b : Bool) → (b ≡ true → P) → (b ≡ false → P) → P
+split true f g = f refl
+split false f g = g refl
 
-pub ends_whole : (l : List ℕ) (z : ℕ) → Ends l z z z
+-- ---- the first word
+
+abbrev pub is_space : ℕ → Bool
+is_space b = eqb b space
+
+one_more : (n : ℕ) → 1 + n ≡ suc n
+one_more n = omega arith
+
+first_cut : (bs : List ℕ) → words_of bs ≡ take (position_or_len is_space bs) bs ∷ words_past (drop (position_or_len is_space bs) bs)
 unfolding words_of
-ends_whole l z = record { low = omega arith; high = omega arith; cut = rw (slice_empty z l) }
+first_cut [] = refl
+first_cut (b ∷ bs) = split (eqb b space) (λ e. rw e) (λ e. rw (e, first_cut bs, one_more (position_or_len is_space bs)))
 
-pub ends_last : (l : List ℕ) (a z : ℕ) → a ≤ z → z ≤ a → Ends l a z a
-ends_last l a z p q = let e : a ≡ z = omega arith in rw e (ends_whole l z)
+-- the length of the first word: up to the first space, or all
+abbrev pub word_length : List ℕ → ℕ
+word_length bs = unwrap_or (position is_space bs) (length bs)
 
-module _ (l : List ℕ) (a z : ℕ) (h : a < z) (k : z ≤ length l) where
-  pub cons : slice a z l ≡ get_or l a 0 ∷ slice (suc a) z l
-  cons = slice-cons a z l 0 h k
+length_is : (bs : List ℕ) → word_length bs ≡ position_or_len is_space bs
+length_is bs =
+    let most : position_or_len is_space bs ≤ length bs = prefix_len-le-length _ bs in
+    split (ltb (position_or_len is_space bs) (length bs))
+    (λ e. rw e)
+    (λ e. rw e (omega (arith, ltb-false (position_or_len is_space bs) (length bs) e)))
 
-  pub ends_space : get_or l a 0 ≡ space → Ends l a z a
-  unfolding words_of
-  ends_space q = record { low = omega arith; high = omega arith; cut = rw (cons, slice_empty a l, eq-eqb (get_or l a 0) space q) }
-
-  pub ends_more : (get_or l a 0 ≡ space → ⊥) → (e : ℕ) → Ends l (a + 1) z e → Ends l a z e
-  unfolding words_of
-  ends_more q e r =
-      let low : a < e = omega (arith, r.low) in
-      let high : e ≤ length l = omega (arith, r.high) in
-      let cut : words_of (slice (suc a) z l) ≡ slice (suc a) e l ∷ words_past (slice e z l) = rw (add-one a) at r.cut in
-      record {
-        low = omega arith;
-        high = r.high;
-        cut = rw (cons, ne_eqb (get_or l a 0) space q, cut, slice-cons a e l 0 low high);
-      }
+pub word_cut : (bs : List ℕ) → words_of bs ≡ take (word_length bs) bs ∷ words_past (drop (word_length bs) bs)
+word_cut bs = rw (length_is bs) (first_cut bs)
 
 -- ---- the same bytes as a keyword
 
-pub same_end : (key : List ℕ) (k : ℕ) → k ≤ length key → same [] (drop k key) ≡ eqb k (length key)
+pub same_equal : (w key : List ℕ) → pointwise nat_eq w key ≡ same w key
 unfolding same
-same_end [] zero h = refl
-same_end [] (suc k) h = absurd (omega arith)
-same_end (x ∷ xs) zero h = sym (eqb-zero-suc (length xs))
-same_end (x ∷ xs) (suc k) h = same_end xs k (omega arith) ∙ sym (eqb-suc-suc k (length xs))
+same_equal [] [] = refl
+same_equal [] (k ∷ ks) = refl
+same_equal (b ∷ bs) [] = refl
+same_equal (b ∷ bs) (k ∷ ks) = ap (λ (t : Bool). eqb b k && t) (same_equal bs ks)
 
-pub same_last : (l : List ℕ) (a z : ℕ) → a ≤ z → z ≤ a → (key : List ℕ) (i : ℕ) → i ≤ length key → same (slice a z l) (drop i key) ≡ eqb i (length key)
-same_last l a z p q key i h = let e : a ≡ z = omega arith in rw (e, slice_empty z l) (same_end key i h)
+-- a word read byte by byte from i on
+abbrev pub reads : List ℕ → ℕ → List ℕ → Bool
+reads w i [] = true
+reads w i (k ∷ ks) = eqb (get_or w i 0) k && reads w (suc i) ks
 
-module _ (l : List ℕ) (a z : ℕ) (h : a < z) (k : z ≤ length l) (key : List ℕ) (i : ℕ) where
-  pub same_short : i ≡ length key → same (slice a z l) (drop i key) ≡ false
-  unfolding same
-  same_short q = rw (cons l a z h k, q, drop-length key)
+reads_behind : (b : ℕ) (w : List ℕ) (i : ℕ) (key : List ℕ) → reads (b ∷ w) (suc i) key ≡ reads w i key
+reads_behind b w i [] = refl
+reads_behind b w i (k ∷ ks) = ap (λ (t : Bool). eqb (get_or w i 0) k && t) (reads_behind b w (suc i) ks)
 
-  pub same_differ : i < length key → (get_or l a 0 ≡ get_or key i 0 → ⊥) → same (slice a z l) (drop i key) ≡ false
-  unfolding same
-  same_differ m q = rw (cons l a z h k, drop-cons key i 0 m, ne_eqb (get_or l a 0) (get_or key i 0) q)
+and_swap : (a b c : Bool) → (a && (b && c)) ≡ (b && (a && c))
+and_swap true b c = refl
+and_swap false true c = refl
+and_swap false false c = refl
 
-  pub same_more : i < length key → get_or l a 0 ≡ get_or key i 0 → same (slice a z l) (drop i key) ≡ same (slice (a + 1) z l) (drop (i + 1) key)
-  unfolding same
-  same_more m q = rw (cons l a z h k, drop-cons key i 0 m, eq-eqb (get_or l a 0) (get_or key i 0) q, add-one a, add-one i)
+-- as a `match` reads it: the length, and then each byte
+pub same_reads : (w key : List ℕ) → same w key ≡ (eqb (length w) (length key) && reads w 0 key)
+unfolding same
+same_reads [] [] = refl
+same_reads [] (k ∷ ks) = rw (eqb-zero-suc (length ks))
+same_reads (b ∷ bs) [] = rw (ne_eqb (suc (length bs)) 0 (λ e. omega arith))
+same_reads (b ∷ bs) (k ∷ ks) =
+    rw (same_reads bs ks, eqb-suc-suc (length bs) (length ks), reads_behind b bs 0 ks)
+    (and_swap (eqb b k) (eqb (length bs) (length ks)) (reads bs 0 ks))
+
+-- ---- a call by its keyword
+
+-- whether a keyword is the word
+abbrev pub is_named : List ℕ → Bor (List ℕ) × Command → Bool
+is_named w (key, command) = pointwise nat_eq w key.now
+
+-- the call beside a keyword
+abbrev pub said : Bor (List ℕ) × Command → Line
+said (key, command) = Call command
+
+pub named : (w : List ℕ) (choices : List (Bor (List ℕ) × Command)) → option_map said (find (is_named w) choices) ≡ call_named w choices
+unfolding if_call
+named w [] = refl
+named w ((key, command) ∷ choices) =
+    let e = same_equal w key.now in
+    split (same w key.now) (λ t. rw (e, t)) (λ t. rw (e, t) (named w choices))
+
+-- the pair that was found, or none
+pub named_some : (w : List ℕ) (choices : List (Bor (List ℕ) × Command)) {r : Option (Bor (Bor (List ℕ) × Command))} {x : Bor (Bor (List ℕ) × Command)}
+    → option_map (λ p. p.now) r ≡ find (is_named w) choices → r ≡ Some x → Some (said x.now) ≡ call_named w choices
+named_some w choices q e = ap (option_map said) (rw e at q) ∙ named w choices
+
+pub named_none : (w : List ℕ) (choices : List (Bor (List ℕ) × Command)) {r : Option (Bor (Bor (List ℕ) × Command))}
+    → option_map (λ p. p.now) r ≡ find (is_named w) choices → r ≡ None → None ≡ call_named w choices
+named_none w choices q e = ap (option_map said) (rw e at q) ∙ named w choices
 
 -- ---- a number
 
 -- digits behind digits of value v
-abbrev pub number_after : ℕ → List ℕ → Number
-number_after v bs = cond (all_digits bs && leb (value_after v bs) most_wide) (Value (value_after v bs)) Wrong
+abbrev pub number_after : ℕ → List ℕ → Option ℕ
+number_after v bs = cond (all_digits bs && leb (value_after v bs) most_wide) (Some (value_after v bs)) None
 
 pub value_grows : (v : ℕ) (bs : List ℕ) → v ≤ value_after v bs
 value_grows v [] = omega arith
@@ -87,64 +131,78 @@ and_no : (a : Bool) → (a && false) ≡ false
 and_no true = refl
 and_no false = refl
 
-pub number_empty : (l : List ℕ) (z : ℕ) → number_of (slice z z l) ≡ Wrong
+number_bad : (v b : ℕ) (bs : List ℕ) → is_digit b ≡ false → number_after v (b ∷ bs) ≡ None
+number_bad v b bs q = rw q
+
+number_step : (v b : ℕ) (bs : List ℕ) → is_digit b ≡ true → number_after v (b ∷ bs) ≡ number_after (10 * v + (b - 48)) bs
+number_step v b bs q = rw q
+
+number_past : (v : ℕ) (bs : List ℕ) → most_wide < v → number_after v bs ≡ None
+number_past v bs h =
+    let past : most_wide < value_after v bs = omega (arith, value_grows v bs) in
+    rw (lt-leb (value_after v bs) most_wide past, and_no (all_digits bs))
+
+pub number_none : (w : List ℕ) → length w ≡ 0 → number_of w ≡ None
 unfolding number_of
-number_empty l z = rw (slice_empty z l)
+number_none [] h = refl
+number_none (b ∷ bs) h = absurd (omega arith)
 
-pub number_end : (l : List ℕ) (z v : ℕ) → v ≤ most_wide → number_after v (slice z z l) ≡ Value v
-number_end l z v h = rw (slice_empty z l, le-leb v most_wide h)
+pub number_start : (w : List ℕ) → (length w ≡ 0 → ⊥) → number_of w ≡ number_after 0 w
+unfolding number_of
+number_start [] h = absurd (h refl)
+number_start (b ∷ bs) h = refl
 
-pub number_last : (l : List ℕ) (a z : ℕ) → a ≤ z → z ≤ a → (v : ℕ) → v ≤ most_wide → number_after v (slice a z l) ≡ Value v
-number_last l a z p q v h = let e : a ≡ z = omega arith in rw e (number_end l z v h)
+-- the digits from i on stand behind digits of value v
+module _ (w : List ℕ) (v i : ℕ) (q : number_of w ≡ number_after v (drop i w)) where
+  pub number_last : length w ≤ i → v ≤ most_wide → Some v ≡ number_of w
+  number_last h k =
+      sym (q ∙ at_drop_all (number_after v) w i h ∙ rw (le-leb v most_wide k))
 
-pub number_none : (l : List ℕ) (a z : ℕ) → a ≡ z → number_of (slice a z l) ≡ Wrong
-number_none l a z e = rw e (number_empty l z)
+  module _ (h : i < length w) where
+    pub number_wrong : is_digit (get_or w i 0) ≡ false → None ≡ number_of w
+    number_wrong d = sym (q ∙ ap (number_after v) (drop-cons w i 0 h) ∙ number_bad v (get_or w i 0) (drop (suc i) w) d)
 
-module _ (l : List ℕ) (a z : ℕ) (h : a < z) (k : z ≤ length l) where
-  pub number_start : number_of (slice a z l) ≡ number_after 0 (slice a z l)
-  unfolding number_of
-  number_start = rw (cons l a z h k)
+    module _ (d : is_digit (get_or w i 0) ≡ true) where
+      stepped : number_of w ≡ number_after (10 * v + (get_or w i 0 - 48)) (drop (suc i) w)
+      stepped = q ∙ ap (number_after v) (drop-cons w i 0 h) ∙ number_step v (get_or w i 0) (drop (suc i) w) d
 
-  module _ (v : ℕ) where
-    pub number_low : get_or l a 0 < 48 → number_after v (slice a z l) ≡ Wrong
-    number_low q = rw (cons l a z h k, lt-leb 48 (get_or l a 0) q)
+      pub number_wide : most_wide < 10 * v + (get_or w i 0 - 48) → None ≡ number_of w
+      number_wide k = sym (stepped ∙ number_past _ (drop (suc i) w) k)
 
-    module _ (lo : 48 ≤ get_or l a 0) where
-      pub number_high : 57 < get_or l a 0 → number_after v (slice a z l) ≡ Wrong
-      number_high q = rw (cons l a z h k, le-leb 48 (get_or l a 0) lo, lt-leb (get_or l a 0) 57 q)
-
-      module _ (hi : get_or l a 0 ≤ 57) where
-        opened : number_after v (slice a z l) ≡ number_after (10 * v + (get_or l a 0 - 48)) (slice (suc a) z l)
-        opened = rw (cons l a z h k, le-leb 48 (get_or l a 0) lo, le-leb (get_or l a 0) 57 hi)
-
-        pub number_wide : (most_wide - (get_or l a 0 - 48)) / 10 < v → number_after v (slice a z l) ≡ Wrong
-        number_wide q =
-            let far : most_wide < 10 * v + (get_or l a 0 - 48) = omega arith in
-            let past : most_wide < value_after (10 * v + (get_or l a 0 - 48)) (slice (suc a) z l) =
-            omega (arith, value_grows (10 * v + (get_or l a 0 - 48)) (slice (suc a) z l)) in
-            opened ∙ rw (lt-leb (value_after (10 * v + (get_or l a 0 - 48)) (slice (suc a) z l)) most_wide past, and_no (all_digits (slice (suc a) z l)))
-
-        pub number_more : number_after v (slice a z l) ≡ number_after (10 * v + (get_or l a 0 - 48)) (slice (a + 1) z l)
-        number_more = opened ∙ rw (add-one a)
+      pub number_more : (n : ℕ) → n ≡ v * 10 + (get_or w i 0 - 48) → number_of w ≡ number_after n (drop (i + 1) w)
+      number_more n e =
+          let e' : 10 * v + (get_or w i 0 - 48) ≡ n = omega arith in
+          stepped ∙ rw (e', add-one i)
 
 -- ---- the numbers behind a word
 
-pub numbers_end : (l : List ℕ) (z : ℕ) (ns : Numbers) → numbers_after ns (words_past (slice z z l)) ≡ ns
+never : (n : Option ℕ) (f : ℕ → Option Numbers) → ((x : ℕ) → f x ≡ None) → where_number n f ≡ None
+never None f h = refl
+never (Some x) f h = h x
+
+-- words behind what are no numbers are no numbers
+numbers_wrong : (ws : List (List ℕ)) → numbers_after None ws ≡ None
 unfolding numbers_after
-numbers_end l z ns = rw (slice_empty z l)
+numbers_wrong [] = refl
+numbers_wrong (w ∷ ws) = never (number_of w) _ (λ x. numbers_wrong ws)
 
-pub numbers_last : (l : List ℕ) (a z : ℕ) → a ≤ z → z ≤ a → (ns : Numbers) → numbers_after ns (words_past (slice a z l)) ≡ ns
-numbers_last l a z p q ns = let e : a ≡ z = omega arith in rw e (numbers_end l z ns)
-
-module _ (l : List ℕ) (a z e : ℕ) (h : a < z) (k : z ≤ length l) (r : Ends l (a + 1) z e) where
-  pub past : words_past (slice a z l) ≡ slice (a + 1) e l ∷ words_past (slice e z l)
-  past = ap words_past (cons l a z h k) ∙ rw (← add-one a) r.cut
-
-  pub numbers_wrong : (ns : Numbers) → Wrong ≡ number_of (slice (a + 1) e l) → numbers_after ns (words_past (slice a z l)) ≡ Others
+-- a word w stands in front of words ws
+module _ {all : List (List ℕ)} (w : List ℕ) (ws : List (List ℕ)) (cut : all ≡ w ∷ ws) (ns : Option Numbers) where
+  pub numbers_bad : None ≡ number_of w → None ≡ numbers_after ns all
   unfolding numbers_after
-  numbers_wrong ns q = rw (past, ← q)
+  numbers_bad q = rw (cut, ← q)
 
-  pub numbers_more : (ns : Numbers) (x : ℕ) → Value x ≡ number_of (slice (a + 1) e l)
-      → numbers_after ns (words_past (slice a z l)) ≡ numbers_after (with_one ns x) (words_past (slice e z l))
-  unfolding numbers_after
-  numbers_more ns x q = rw (past, ← q)
+  module _ (x : ℕ) (q : Some x ≡ number_of w) where
+    stepped_on : numbers_after ns all ≡ numbers_after (with_one ns x) ws
+    unfolding numbers_after
+    stepped_on = rw (cut, ← q)
+
+    pub numbers_full : None ≡ with_one ns x → None ≡ numbers_after ns all
+    numbers_full e = sym (stepped_on ∙ rw (← e) (numbers_wrong ws))
+
+    pub numbers_more : (m : Option Numbers) → m ≡ with_one ns x → numbers_after ns all ≡ numbers_after m ws
+    numbers_more m e = stepped_on ∙ rw (← e)
+
+pub numbers_last : (ns : Option Numbers) (all : List (List ℕ)) → all ≡ [] → ns ≡ numbers_after ns all
+unfolding numbers_after
+numbers_last ns all e = rw e

@@ -1,6 +1,7 @@
 -- Printing then parsing: the line of a call or an opening, its numbers within their widths, is understood as that call or opening.
 -- Assumes nothing.
 use Prim.Native.Nat.{ℕ, zero, suc, ◌≤◌}
+use Rattle.std.specs.Prelude.{Option, Some, None}
 use mathlib.Core.Bool.{Bool, true, false, not, cond, ◌&&◌, false≢true}
 use mathlib.Core.List.{List, [], ◌∷◌, ◌++◌}
 use mathlib.Core.Path.{◌≡◌, refl, sym, ap, ◌∙◌}
@@ -11,7 +12,7 @@ use Rattle.head.specs.declared.Command.{Command}
 use Rattle.head.specs.declared.Command.TheVariants.{Len, Capacity, Weight, IsEmpty, IsFull, Front, Back, Peek, Contains, List as ListFront, ListBack, Get, Pop, PopFront, PopBack, Put, PutWithWeight, Clear, Retain, Resize, PutOrModify, TryPutOrModify, GetMut, PeekMut, FrontMut, BackMut}
 use Rattle.script_digits.specs.Decimal.{digits_of, is_digit, all_digits, is_numeral}
 use Rattle.script_read.specs.declared.Line.{Line}
-use Rattle.script_read.specs.declared.Line.TheVariants.{Open, Call, Unknown}
+use Rattle.script_read.specs.declared.Line.TheVariants.{Open, Call}
 use Rattle.script_read.specs.declared.Numbers.{Numbers}
 use Rattle.script_read.specs.declared.Numbers.TheVariants.{One, Two, Three, Four}
 use Rattle.script_read.specs.Keywords.{same, back_mut_word, back_word, capacity_word, clear_word, code_word, contains_word, front_mut_word, front_word, get_mut_word, get_word, is_empty_word, is_full_word, len_word, list_back_word, list_word, not_word, open_word, peek_mut_word, peek_word, plain_word, pop_back_word, pop_front_word, pop_word, put_or_modify_word, put_word, putw_word, resize_word, retain_word, stamp_word, try_put_or_modify_word, value_word, weighed_word, weight_word}
@@ -78,21 +79,21 @@ clear : (n : ℕ) → no_space (digits_of n) ≡ true
 clear n = digits_clear (digits_of n) (numeral_all (digits_of n) (numeral_digits n))
 
 module _ {a : ℕ} (ha : Wide a) where
-  one_back : numbers_of (digits_of a ∷ []) ≡ One a
+  one_back : numbers_of (digits_of a ∷ []) ≡ Some (One a)
   unfolding numbers_after
   one_back = rw (number_digits a ha)
 
   module _ {b : ℕ} (hb : Wide b) where
-    two_back : numbers_of (digits_of a ∷ digits_of b ∷ []) ≡ Two a b
+    two_back : numbers_of (digits_of a ∷ digits_of b ∷ []) ≡ Some (Two a b)
     unfolding numbers_after
     two_back = rw (number_digits a ha, number_digits b hb)
 
     module _ {c : ℕ} (hc : Wide c) where
-      three_back : numbers_of (digits_of a ∷ digits_of b ∷ digits_of c ∷ []) ≡ Three a b c
+      three_back : numbers_of (digits_of a ∷ digits_of b ∷ digits_of c ∷ []) ≡ Some (Three a b c)
       unfolding numbers_after
       three_back = rw (number_digits a ha, number_digits b hb, number_digits c hc)
 
-      four_back : {d : ℕ} → Wide d → numbers_of (digits_of a ∷ digits_of b ∷ digits_of c ∷ digits_of d ∷ []) ≡ Four a b c d
+      four_back : {d : ℕ} → Wide d → numbers_of (digits_of a ∷ digits_of b ∷ digits_of c ∷ digits_of d ∷ []) ≡ Some (Four a b c d)
       unfolding numbers_after
       four_back {d} hd = rw (number_digits a ha, number_digits b hb, number_digits c hc, number_digits d hd)
 
@@ -102,41 +103,41 @@ widen h = omega arith
 -- ---- lines
 
 -- a word that is neither `open` nor `retain`, with its numbers
-call_back : (w : List ℕ) (ws : List (List ℕ)) {ns : Numbers} {m : Line} → no_spaces (w ∷ ws) ≡ true → same w open_word ≡ false → same w retain_word ≡ false
+call_back : (w : List ℕ) (ws : List (List ℕ)) {ns : Option Numbers} {m : Option Line} → no_spaces (w ∷ ws) ≡ true → same w open_word ≡ false → same w retain_word ≡ false
     → numbers_of ws ≡ ns → call_of w ns ≡ m → understood (spaced (w ∷ ws)) ≡ m
 unfolding understood line_of
 call_back w ws h o r q p = rw (words_back w ws h, o, r, q) p
 
-bare_back : (w : List ℕ) {m : Line} → no_space w ≡ true → same w open_word ≡ false → same w retain_word ≡ false → nought_of w ≡ m → understood (spaced (w ∷ [])) ≡ m
+bare_back : (w : List ℕ) {m : Option Line} → no_space w ≡ true → same w open_word ≡ false → same w retain_word ≡ false → nought_of w ≡ m → understood (spaced (w ∷ [])) ≡ m
 unfolding no_spaces numbers_after call_of
 bare_back w h o r p = call_back w [] (rw h) o r refl p
 
 module _ {a : ℕ} (ha : Wide a) where
-  single_back : (w : List ℕ) {m : Line} → no_space w ≡ true → same w open_word ≡ false → same w retain_word ≡ false → one_of w a ≡ m
+  single_back : (w : List ℕ) {m : Option Line} → no_space w ≡ true → same w open_word ≡ false → same w retain_word ≡ false → one_of w a ≡ m
       → understood (spaced (w ∷ digits_of a ∷ [])) ≡ m
   unfolding no_spaces call_of
   single_back w h o r p = call_back w (digits_of a ∷ []) (rw (h, clear a)) o r (one_back ha) p
 
   module _ {b : ℕ} where
-    pair_back : Wide b → (w : List ℕ) {m : Line} → no_space w ≡ true → same w open_word ≡ false → same w retain_word ≡ false → two_of w a b ≡ m
+    pair_back : Wide b → (w : List ℕ) {m : Option Line} → no_space w ≡ true → same w open_word ≡ false → same w retain_word ≡ false → two_of w a b ≡ m
         → understood (spaced (w ∷ digits_of a ∷ digits_of b ∷ [])) ≡ m
     unfolding no_spaces call_of
     pair_back hb w h o r p = call_back w (digits_of a ∷ digits_of b ∷ []) (rw (h, clear a, clear b)) o r (two_back ha hb) p
 
     module _ (hb : Narrow b) {c : ℕ} (hc : Wide c) where
-      triple_back : (w : List ℕ) {m : Line} → no_space w ≡ true → same w open_word ≡ false → same w retain_word ≡ false → three_of w a b c ≡ m
+      triple_back : (w : List ℕ) {m : Option Line} → no_space w ≡ true → same w open_word ≡ false → same w retain_word ≡ false → three_of w a b c ≡ m
           → understood (spaced (w ∷ digits_of a ∷ digits_of b ∷ digits_of c ∷ [])) ≡ m
       unfolding no_spaces call_of
       triple_back w h o r p =
           call_back w (digits_of a ∷ digits_of b ∷ digits_of c ∷ []) (rw (h, clear a, clear b, clear c)) o r (three_back ha (widen hb) hc) p
 
-      fourfold_back : {d : ℕ} → Wide d → (w : List ℕ) {m : Line} → no_space w ≡ true → same w open_word ≡ false → same w retain_word ≡ false → four_of w a b c d ≡ m
+      fourfold_back : {d : ℕ} → Wide d → (w : List ℕ) {m : Option Line} → no_space w ≡ true → same w open_word ≡ false → same w retain_word ≡ false → four_of w a b c d ≡ m
           → understood (spaced (w ∷ digits_of a ∷ digits_of b ∷ digits_of c ∷ digits_of d ∷ [])) ≡ m
       unfolding no_spaces call_of
       fourfold_back {d} hd w h o r p =
           call_back w (digits_of a ∷ digits_of b ∷ digits_of c ∷ digits_of d ∷ []) (rw (h, clear a, clear b, clear c, clear d)) o r (four_back ha (widen hb) hc hd) p
 
-open_back : (kind c n : ℕ) → kind ≤ 1 → Wide c → Narrow n → understood (printed (Open kind c n)) ≡ Open kind c n
+open_back : (kind c n : ℕ) → kind ≤ 1 → Wide c → Narrow n → understood (printed (Some (Open kind c n))) ≡ Some (Open kind c n)
 unfolding understood printed kind_word no_spaces no_space line_of open_of open_numbers kind_line narrow if_call same
 open_back zero c n k hc hn =
     rw (words_back open_word (plain_word ∷ digits_of c ∷ digits_of n ∷ []) (rw (clear c, clear n)), two_back hc (widen hn), le-leb n most_narrow hn)
@@ -147,7 +148,7 @@ open_back (suc (suc kind)) c n k hc hn = absurd (omega arith)
 -- ---- rules
 
 -- a rule's words, with `not` or without
-rule_back : (w : List ℕ) (ws : List (List ℕ)) (negated : Bool) {m : Line} → no_spaces (w ∷ ws) ≡ true → same w not_word ≡ false
+rule_back : (w : List ℕ) (ws : List (List ℕ)) (negated : Bool) {m : Option Line} → no_spaces (w ∷ ws) ≡ true → same w not_word ≡ false
     → rule_line negated (w ∷ ws) ≡ m → understood (spaced (retain_word ∷ cond negated (not_word ∷ (w ∷ ws)) (w ∷ ws))) ≡ m
 unfolding understood no_spaces no_space line_of retain_of same
 rule_back w ws true h o p =
@@ -158,19 +159,19 @@ rule_back w ws false h o p =
     rw (words_back retain_word (w ∷ ws) (rw (q.0, q.1)), o) p
 
 module _ (negated : Bool) {a : ℕ} (ha : Wide a) where
-  range_back : (w : List ℕ) {b : ℕ} {m : Line} → Wide b → no_space w ≡ true → same w not_word ≡ false → range_line negated w a b ≡ m
+  range_back : (w : List ℕ) {b : ℕ} {m : Option Line} → Wide b → no_space w ≡ true → same w not_word ≡ false → range_line negated w a b ≡ m
       → understood (spaced (retain_word ∷ cond negated (not_word ∷ (w ∷ digits_of a ∷ digits_of b ∷ [])) (w ∷ digits_of a ∷ digits_of b ∷ []))) ≡ m
   unfolding no_spaces rule_line rule_numbers
   range_back w {b} hb h o p =
       rule_back w (digits_of a ∷ digits_of b ∷ []) negated (rw (h, clear a, clear b)) o (rw (two_back ha hb) p)
 
-  bound_back : (w : List ℕ) {m : Line} → no_space w ≡ true → same w not_word ≡ false → bound_line negated w a ≡ m
+  bound_back : (w : List ℕ) {m : Option Line} → no_space w ≡ true → same w not_word ≡ false → bound_line negated w a ≡ m
       → understood (spaced (retain_word ∷ cond negated (not_word ∷ (w ∷ digits_of a ∷ [])) (w ∷ digits_of a ∷ []))) ≡ m
   unfolding no_spaces rule_line rule_numbers
   bound_back w h o p = rule_back w (digits_of a ∷ []) negated (rw (h, clear a)) o (rw (one_back ha) p)
 
 retain_back : (number : ℕ) (negated : Bool) (low high : ℕ) → Sayable (record { number = number; not = negated; low = low; high = high })
-    → understood (spaced (call_words (Retain (record { number = number; not = negated; low = low; high = high })))) ≡ Call (keeping number negated low high)
+    → understood (spaced (call_words (Retain (record { number = number; not = negated; low = low; high = high })))) ≡ Some (Call (keeping number negated low high))
 unfolding call_words rule_words bounds_words no_space same range_line bound_line if_call narrow
 retain_back zero negated low high f = range_back negated f.low code_word f.high refl refl refl
 retain_back (suc zero) negated low high f = range_back negated f.low value_word f.high refl refl refl
@@ -182,7 +183,7 @@ retain_back (suc (suc (suc (suc number)))) negated low high f = absurd (omega (a
 
 -- ---- every line
 
-command_back : (command : Command) → CallFits command → understood (spaced (call_words command)) ≡ Call command
+command_back : (command : Command) → CallFits command → understood (spaced (call_words command)) ≡ Some (Call command)
 unfolding call_words no_space same nought_of one_of two_of three_of four_of if_call narrow
 command_back Len f = bare_back len_word refl refl refl refl
 command_back Capacity f = bare_back capacity_word refl refl refl refl
@@ -211,13 +212,13 @@ command_back (PutWithWeight c s v d) f = fourfold_back f.0 f.1 f.2 f.3 putw_word
 command_back (TryPutOrModify c s v d) f = fourfold_back f.0 f.1 f.2 f.3 try_put_or_modify_word refl refl refl (rw (le-leb s most_narrow f.1))
 command_back (Retain r) f = retain_back r.number r.not r.low r.high f
 
-nothing_said : understood [] ≡ Unknown
+nothing_said : understood [] ≡ None
 unfolding understood line_of words_of same numbers_after call_of nought_of if_call
 nothing_said = refl
 
 -- what is printed is understood as what it was
-pub read_back : (line : Line) → Fits line → understood (printed line) ≡ line
+pub read_back : (line : Option Line) → Fits line → understood (printed line) ≡ line
 unfolding printed
-read_back (Open kind c n) f = open_back kind c n f.0 f.1 f.2
-read_back (Call command) f = command_back command f
-read_back Unknown f = nothing_said
+read_back (Some (Open kind c n)) f = open_back kind c n f.0 f.1 f.2
+read_back (Some (Call command)) f = command_back command f
+read_back None f = nothing_said

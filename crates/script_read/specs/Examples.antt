@@ -1,10 +1,10 @@
 -- Lines computed: those of document 01's sample script, and those that are easily taken wrong.
 -- Assumes nothing.
-use Rattle.std.specs.Prelude.{ℕ, true, false, List, [], ◌∷◌, map, ◌≡◌, refl}
+use Rattle.std.specs.Prelude.{ℕ, true, false, List, [], ◌∷◌, map, Some, None, ◌≡◌, refl}
 use Rattle.head.specs.declared.Command.TheVariants.{List as ListFront, Get, Put, PutWithWeight, Resize}
 use Rattle.head.specs.Bounds.{weighed_kind}
 use Rattle.head.specs.Rules.{code_rule, stamp_rule}
-use Rattle.script_read.specs.declared.Line.TheVariants.{Open, Call, Unknown}
+use Rattle.script_read.specs.declared.Line.TheVariants.{Open, Call}
 use Rattle.script_read.specs.Keywords.{same}
 use Rattle.script_read.specs.Words.{words_of}
 use Rattle.script_read.specs.Numerals.{number_of, numbers_after}
@@ -36,7 +36,7 @@ sample_put4 = 112 ∷ 117 ∷ 116 ∷ 119 ∷ 32 ∷ 51 ∷ 32 ∷ 56 ∷ 32 ∷
 
 -- the sample script
 sample : map understood (sample_open ∷ sample_put1 ∷ sample_put2 ∷ sample_put3 ∷ sample_list ∷ sample_put4 ∷ [])
-    ≡ Open weighed_kind 10 4 ∷ Call (PutWithWeight (code 1) 7 100 3) ∷ Call (PutWithWeight (code 2) 7 200 4) ∷ Call (PutWithWeight (code 1) 8 101 5) ∷ Call ListFront ∷ Call (PutWithWeight (code 3) 8 300 10) ∷ []
+    ≡ Some (Open weighed_kind 10 4) ∷ Some (Call (PutWithWeight (code 1) 7 100 3)) ∷ Some (Call (PutWithWeight (code 2) 7 200 4)) ∷ Some (Call (PutWithWeight (code 1) 8 101 5)) ∷ Some (Call ListFront) ∷ Some (Call (PutWithWeight (code 3) 8 300 10)) ∷ []
 unfolding same words_of number_of numbers_after if_call narrow nought_of one_of two_of three_of four_of call_of kind_line open_numbers open_of bound_line range_line rule_numbers rule_line retain_of line_of understood
 sample = refl
 
@@ -86,7 +86,7 @@ no_rule = 114 ∷ 101 ∷ 116 ∷ 97 ∷ 105 ∷ 110 ∷ 32 ∷ 108 ∷ 101 ∷ 
 
 -- none of these is understood
 refused : map understood (doubled_space ∷ leading_space ∷ trailing_space ∷ carriage_return ∷ signed ∷ empty ∷ past_width ∷ stamp_past_width ∷ unknown_word ∷ one_too_many ∷ no_rule ∷ [])
-    ≡ Unknown ∷ Unknown ∷ Unknown ∷ Unknown ∷ Unknown ∷ Unknown ∷ Unknown ∷ Unknown ∷ Unknown ∷ Unknown ∷ Unknown ∷ []
+    ≡ None ∷ None ∷ None ∷ None ∷ None ∷ None ∷ None ∷ None ∷ None ∷ None ∷ None ∷ []
 unfolding same words_of number_of numbers_after if_call narrow nought_of one_of two_of three_of four_of call_of kind_line open_numbers open_of bound_line range_line rule_numbers rule_line retain_of line_of understood
 refused = refl
 
@@ -116,6 +116,6 @@ resize_nought = 114 ∷ 101 ∷ 115 ∷ 105 ∷ 122 ∷ 101 ∷ 32 ∷ 48 ∷ []
 
 -- each of these is understood
 taken : map understood (widest ∷ stamp_widest ∷ leading_zeros ∷ not_code ∷ stamp_rule_said ∷ resize_nought ∷ [])
-    ≡ Call (Get (code 18446744073709551615)) ∷ Call (Put (code 1) 4294967295 2) ∷ Call (Get (code 7)) ∷ Call (keeping code_rule true 1 5) ∷ Call (keeping stamp_rule false 3 0) ∷ Call (Resize 0) ∷ []
+    ≡ Some (Call (Get (code 18446744073709551615))) ∷ Some (Call (Put (code 1) 4294967295 2)) ∷ Some (Call (Get (code 7))) ∷ Some (Call (keeping code_rule true 1 5)) ∷ Some (Call (keeping stamp_rule false 3 0)) ∷ Some (Call (Resize 0)) ∷ []
 unfolding same words_of number_of numbers_after if_call narrow nought_of one_of two_of three_of four_of call_of kind_line open_numbers open_of bound_line range_line rule_numbers rule_line retain_of line_of understood
 taken = refl

@@ -1,6 +1,6 @@
 -- The line that says a call or an opening, and which of them can be said.
 -- Assumes nothing.
-use Rattle.std.specs.Prelude.{ℕ, ◌≤◌, cond, List, [], ◌∷◌, ◌++◌, ◌≡◌, eqb}
+use Rattle.std.specs.Prelude.{ℕ, ◌≤◌, cond, List, [], ◌∷◌, ◌++◌, ◌≡◌, Option, Some, None, eqb}
 use Rattle.head.specs.declared.Rule.{Rule}
 use Rattle.head.specs.declared.Command.{Command}
 use Rattle.head.specs.declared.Command.TheVariants.{Len, Capacity, Weight, IsEmpty, IsFull, Front, Back, Peek, Contains, List as ListFront, ListBack, Get, Pop, PopFront, PopBack, Put, PutWithWeight, Clear, Retain, Resize, PutOrModify, TryPutOrModify, GetMut, PeekMut, FrontMut, BackMut}
@@ -8,7 +8,7 @@ use Rattle.head.specs.Bounds.{plain_kind, weighed_kind}
 use Rattle.head.specs.Rules.{code_rule, value_rule, stamp_rule, weight_rule}
 use Rattle.script_digits.specs.Decimal.{digits_of}
 use Rattle.script_read.specs.declared.Line.{Line}
-use Rattle.script_read.specs.declared.Line.TheVariants.{Open, Call, Unknown}
+use Rattle.script_read.specs.declared.Line.TheVariants.{Open, Call}
 use Rattle.script_read.specs.Keywords.{open_word, plain_word, weighed_word, put_word, putw_word, put_or_modify_word, try_put_or_modify_word, get_word, peek_word, contains_word, pop_word, is_empty_word, is_full_word, len_word, capacity_word, weight_word, front_word, back_word, pop_front_word, pop_back_word, list_word, list_back_word, clear_word, get_mut_word, peek_mut_word, front_mut_word, back_mut_word, retain_word, not_word, code_word, value_word, stamp_word, resize_word}
 use Rattle.script_read.specs.Words.{space}
 use Rattle.script_read.specs.Numerals.{most_wide, most_narrow}
@@ -64,10 +64,10 @@ call_words (FrontMut v) = front_mut_word ∷ digits_of v ∷ []
 call_words (BackMut v) = back_mut_word ∷ digits_of v ∷ []
 
 -- the line of a call or an opening; an empty line, which is not understood, for what has none
-unfoldable pub printed : Line → List ℕ
-printed (Open kind c n) = spaced (open_word ∷ kind_word kind ∷ digits_of c ∷ digits_of n ∷ [])
-printed (Call command) = spaced (call_words command)
-printed Unknown = []
+unfoldable pub printed : Option Line → List ℕ
+printed (Some (Open kind c n)) = spaced (open_word ∷ kind_word kind ∷ digits_of c ∷ digits_of n ∷ [])
+printed (Some (Call command)) = spaced (call_words command)
+printed None = []
 
 -- a number of 64 bits
 abbrev pub Wide : ℕ → Type 0
@@ -115,7 +115,7 @@ CallFits (FrontMut v) = Wide v
 CallFits (BackMut v) = Wide v
 
 -- a call or an opening whose numbers are within their widths, of a kind or by a rule that exists
-abbrev pub Fits : Line → Type 0
-Fits (Open kind c n) = (kind ≤ weighed_kind) × Wide c × Narrow n
-Fits (Call command) = CallFits command
-Fits Unknown = Unit {0}
+abbrev pub Fits : Option Line → Type 0
+Fits (Some (Open kind c n)) = (kind ≤ weighed_kind) × Wide c × Narrow n
+Fits (Some (Call command)) = CallFits command
+Fits None = Unit {0}

@@ -1,7 +1,6 @@
 -- A line as words.
 -- Assumes nothing.
-use Rattle.std.specs.Prelude.{ℕ, ◌≤◌, cond, List, [], ◌∷◌, ◌≡◌, eqb}
-use Rattle.std.proofs.Math.Seq.{slice}
+use Rattle.std.specs.Prelude.{ℕ, cond, List, [], ◌∷◌, eqb}
 
 -- the byte that separates words
 abbrev pub space : ℕ
@@ -21,9 +20,3 @@ words_of (b ∷ bs) = cond (eqb b space) ([] ∷ words_of bs) (in_front b (words
 abbrev pub words_past : List ℕ → List (List ℕ)
 words_past [] = []
 words_past (b ∷ bs) = words_of bs
-
--- the first word of the bytes from a up to z ends at e
-pub record Ends (line : List ℕ) (a z e : ℕ) : Type 0 where
-  pub low : a ≤ e
-  pub high : e ≤ z
-  pub cut : words_of (slice a z line) ≡ slice a e line ∷ words_past (slice e z line)

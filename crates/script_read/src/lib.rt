@@ -1,19 +1,12 @@
 // A line of the script to what it says.
 #![tactic(auto)]
 
-ghost use Rattle.std.specs.Prelude.{◌≡◌, ◌≤◌, length};
-ghost use Rattle.std.proofs.Math.Seq.{slice};
-ghost use Rattle.script_read.specs.Keywords.{same};
-ghost use Rattle.script_read.specs.Words.{Ends, words_past};
-ghost use Rattle.script_read.specs.Numerals.{number_of, with_one, numbers_of};
-ghost use Rattle.script_read.specs.Grammar.{if_call, nought_of, one_of, two_of, three_of, four_of, call_of, kind_line, open_of, bound_line, range_line, rule_line, retain_of, understood};
+ghost use Rattle.std.specs.Prelude.{◌≡◌, ◌≤◌, ◌++◌, ◌∷◌, [], suc, length, Some, SomeIff, MatchOption};
+ghost use Rattle.script_read.specs.Words.{words_of, words_past};
+ghost use Rattle.script_read.specs.Numerals.{most_narrow, number_of, with_one, numbers_of};
+ghost use Rattle.script_read.specs.Grammar.{call_named, nought_of, one_of, two_of, three_of, four_of, call_of, kind_line, open_of, keeping, bound_line, range_line, rule_line, retain_of, understood};
 
 use head::{Code, Command, Head, Rule};
-
-// The largest numbers of 64 and of 32 bits.
-const WIDE: u64 = 18446744073709551615;
-
-const NARROW: u64 = 4294967295;
 
 // What a line says.
 #[derive(Clone, Copy)]
@@ -24,243 +17,173 @@ pub enum Line {
         slots: u32,
     },
     Call(Command),
-    // It is not understood: refusal 8.
-    Unknown,
 }
 
-// What a word is as a number of 64 bits.
-#[derive(Clone, Copy)]
-pub enum Number {
-    Value(u64),
-    // A byte that is no digit, no digit at all, or a value past its width.
-    Wrong,
-}
-
-// The words behind a word, where each is a number.
-#[derive(Clone, Copy)]
+// The words behind a word, where each is a number and there are no more than four.
+#[derive(Clone, Copy, Debug, PartialEq, Eq)]
 pub enum Numbers {
     Nought,
     One(u64),
     Two(u64, u64),
     Three(u64, u64, u64),
     Four(u64, u64, u64, u64),
-    // More than four, or a word that is no number.
-    Others,
 }
 
 impl Numbers {
-    fn with(self, x: u64) -> Numbers
-        ensures { result ≡ with_one self x }
+    fn with(self, x: u64) -> Option<Numbers>
+        ensures { result ≡ with_one (Some self) x }
     {
         match self {
-            Numbers::Nought => Numbers::One(x),
-            Numbers::One(a) => Numbers::Two(a, x),
-            Numbers::Two(a, b) => Numbers::Three(a, b, x),
-            Numbers::Three(a, b, c) => Numbers::Four(a, b, c, x),
-            Numbers::Four(_, _, _, _) => Numbers::Others,
-            Numbers::Others => Numbers::Others,
+            Numbers::Nought => Some(Numbers::One(x)),
+            Numbers::One(a) => Some(Numbers::Two(a, x)),
+            Numbers::Two(a, b) => Some(Numbers::Three(a, b, x)),
+            Numbers::Three(a, b, c) => Some(Numbers::Four(a, b, c, x)),
+            Numbers::Four(..) => None,
         }
     }
 }
 
-// Where the first word of the bytes from `from` up to `to` ends: at a space, or at the end.
-fn word_end(bytes: &[u8], from: usize, to: usize) -> usize
-    requires { (from ≤ to) × (to ≤ length bytes.now) }
-    ensures { Ends bytes.now from to result }
+// The first word of a line, and what is behind it: nothing, or a space and the other words.
+fn first_word(line: &[u8]) -> (&[u8], &[u8])
+    ensures parts { line.now ≡ result.0.now ++ result.1.now }
+    ensures words { words_of line.now ≡ result.0.now ∷ words_past result.1.now }
 {
-    let mut at = from;
-    while at < to {
-        if bytes[at] == b' ' {
-            return at;
-        }
-        at += 1;
-    }
-    at
+    let space = line.iter().position(|byte| *byte == b' ');
+    line.split_at(space.unwrap_or(line.len()))
 }
 
-// Whether the bytes from `from` up to `to` are the keyword.
-fn is_word(bytes: &[u8], from: usize, to: usize, key: &[u8]) -> bool
-    requires { (from ≤ to) × (to ≤ length bytes.now) }
-    ensures { result ≡ same (slice from to bytes.now) key.now }
+// The next word of what is behind a word, and what is behind that.
+fn next_word(rest: &[u8]) -> Option<(&[u8], &[u8])>
+    ensures words { MatchOption result (words_past rest.now ≡ []) (λ p. words_past rest.now ≡ p.0.now ∷ words_past p.1.now) }
+    ensures shorter { MatchOption result (rest.now ≡ []) (λ p. suc (length p.1.now) ≤ length rest.now) }
 {
-    let mut at = from;
-    let mut k = 0;
-    while at < to {
-        if k == key.len() {
-            return false;
-        }
-        if bytes[at] != key[k] {
-            return false;
-        }
-        at += 1;
-        k += 1;
-    }
-    k == key.len()
+    let (_, line) = rest.split_first()?;
+    Some(first_word(line))
 }
 
-// The word from `from` up to `to` as a number. It stops where one more digit would leave 64 bits.
-fn read_number(bytes: &[u8], from: usize, to: usize) -> Number
-    requires { (from ≤ to) × (to ≤ length bytes.now) }
-    ensures { result ≡ number_of (slice from to bytes.now) }
+// A word as a number of 64 bits.
+fn read_number(word: &[u8]) -> Option<u64>
+    ensures { result ≡ number_of word.now }
 {
-    if from == to {
-        return Number::Wrong;
+    if word.is_empty() {
+        return None;
     }
-    let mut v: u64 = 0;
-    let mut at = from;
-    while at < to {
-        let byte = bytes[at];
-        if byte < 48 {
-            return Number::Wrong;
+    let mut value: u64 = 0;
+    for byte in word {
+        if !byte.is_ascii_digit() {
+            return None;
         }
-        if 57 < byte {
-            return Number::Wrong;
-        }
-        let d = (byte - 48) as u64;
-        if (WIDE - d) / 10 < v {
-            return Number::Wrong;
-        }
-        v = 10 * v + d;
-        at += 1;
+        let digit = u64::from(*byte - b'0');
+        value = value.checked_mul(10)?.checked_add(digit)?;
     }
-    Number::Value(v)
+    Some(value)
 }
 
-// The words past the space at `from`, up to `to`, as numbers.
-fn read_numbers(bytes: &[u8], from: usize, to: usize) -> Numbers
-    requires { (from ≤ to) × (to ≤ length bytes.now) }
-    ensures { result ≡ numbers_of (words_past (slice from to bytes.now)) }
+// The words behind a word as numbers.
+fn read_numbers(rest: &[u8]) -> Option<Numbers>
+    ensures { result ≡ numbers_of (words_past rest.now) }
 {
     let mut numbers = Numbers::Nought;
-    let mut at = from;
-    while at < to {
-        let start = at + 1;
-        let end = word_end(bytes, start, to);
-        let Number::Value(x) = read_number(bytes, start, end) else {
-            return Numbers::Others;
-        };
-        numbers = numbers.with(x);
-        at = end;
+    let mut rest = rest;
+    while let Some((word, behind)) = next_word(rest) {
+        numbers = numbers.with(read_number(word)?)?;
+        rest = behind;
     }
-    numbers
+    Some(numbers)
 }
 
-// The call where the word is its keyword, another line where not.
-fn if_call(bytes: &[u8], from: usize, to: usize, key: &[u8], command: Command, miss: Line) -> Line
-    requires { (from ≤ to) × (to ≤ length bytes.now) }
-    ensures { result ≡ if_call (slice from to bytes.now) key.now command miss }
+// A number that has to fit 32 bits.
+fn narrow(n: u64) -> Option<u32>
+    ensures { SomeIff result (n ≤ most_narrow) n }
 {
-    if is_word(bytes, from, to, key) {
-        return Line::Call(command);
-    }
-    miss
+    u32::try_from(n).ok()
 }
 
-// A word alone. Here and below a line stands for what is said where none of the keywords after it is meant.
-fn nought(bytes: &[u8], from: usize, to: usize) -> Line
-    requires { (from ≤ to) × (to ≤ length bytes.now) }
-    ensures { result ≡ nought_of (slice from to bytes.now) }
+// The call whose keyword the word is.
+fn call_named(word: &[u8], choices: &[(&[u8], Command)]) -> Option<Line>
+    ensures { result ≡ call_named word.now choices.now }
 {
-    let line = Line::Unknown;
-    let line = if_call(bytes, from, to, b"clear", Command::Clear, line);
-    let line = if_call(bytes, from, to, b"list_back", Command::ListBack, line);
-    let line = if_call(bytes, from, to, b"list", Command::List, line);
-    let line = if_call(bytes, from, to, b"pop_back", Command::PopBack, line);
-    let line = if_call(bytes, from, to, b"pop_front", Command::PopFront, line);
-    let line = if_call(bytes, from, to, b"back", Command::Back, line);
-    let line = if_call(bytes, from, to, b"front", Command::Front, line);
-    let line = if_call(bytes, from, to, b"weight", Command::Weight, line);
-    let line = if_call(bytes, from, to, b"capacity", Command::Capacity, line);
-    let line = if_call(bytes, from, to, b"len", Command::Len, line);
-    let line = if_call(bytes, from, to, b"is_full", Command::IsFull, line);
-    if_call(bytes, from, to, b"is_empty", Command::IsEmpty, line)
+    let (_, command) = choices.iter().find(|(key, _)| word == *key)?;
+    Some(Line::Call(*command))
+}
+
+// A word alone.
+fn nought(word: &[u8]) -> Option<Line>
+    ensures { result ≡ nought_of word.now }
+{
+    call_named(
+        word,
+        &[
+            (b"is_empty", Command::IsEmpty),
+            (b"is_full", Command::IsFull),
+            (b"len", Command::Len),
+            (b"capacity", Command::Capacity),
+            (b"weight", Command::Weight),
+            (b"front", Command::Front),
+            (b"back", Command::Back),
+            (b"pop_front", Command::PopFront),
+            (b"pop_back", Command::PopBack),
+            (b"list", Command::List),
+            (b"list_back", Command::ListBack),
+            (b"clear", Command::Clear),
+        ],
+    )
 }
 
 // A word with one number.
-fn one(bytes: &[u8], from: usize, to: usize, a: u64) -> Line
-    requires { (from ≤ to) × (to ≤ length bytes.now) }
-    ensures { result ≡ one_of (slice from to bytes.now) a }
+fn one(word: &[u8], a: u64) -> Option<Line>
+    ensures { result ≡ one_of word.now a }
 {
     let code = Code(a);
-    let line = Line::Unknown;
-    let line = if_call(bytes, from, to, b"resize", Command::Resize(a), line);
-    let line = if_call(bytes, from, to, b"back_mut", Command::BackMut(a), line);
-    let line = if_call(bytes, from, to, b"front_mut", Command::FrontMut(a), line);
-    let line = if_call(bytes, from, to, b"pop", Command::Pop(code), line);
-    let line = if_call(bytes, from, to, b"contains", Command::Contains(code), line);
-    let line = if_call(bytes, from, to, b"peek", Command::Peek(code), line);
-    if_call(bytes, from, to, b"get", Command::Get(code), line)
+    call_named(
+        word,
+        &[
+            (b"get", Command::Get(code)),
+            (b"peek", Command::Peek(code)),
+            (b"contains", Command::Contains(code)),
+            (b"pop", Command::Pop(code)),
+            (b"front_mut", Command::FrontMut(a)),
+            (b"back_mut", Command::BackMut(a)),
+            (b"resize", Command::Resize(a)),
+        ],
+    )
 }
 
 // A word with two numbers.
-fn two(bytes: &[u8], from: usize, to: usize, a: u64, value: u64) -> Line
-    requires { (from ≤ to) × (to ≤ length bytes.now) }
-    ensures { result ≡ two_of (slice from to bytes.now) a value }
+fn two(word: &[u8], a: u64, value: u64) -> Option<Line>
+    ensures { result ≡ two_of word.now a value }
 {
     let code = Code(a);
-    let line = Line::Unknown;
-    let line = if_call(
-        bytes,
-        from,
-        to,
-        b"peek_mut",
-        Command::PeekMut { code, value },
-        line,
-    );
-    if_call(
-        bytes,
-        from,
-        to,
-        b"get_mut",
-        Command::GetMut { code, value },
-        line,
+    call_named(
+        word,
+        &[
+            (b"get_mut", Command::GetMut { code, value }),
+            (b"peek_mut", Command::PeekMut { code, value }),
+        ],
     )
 }
 
 // A word with three numbers, the second of which is a stamp.
-fn three(bytes: &[u8], from: usize, to: usize, a: u64, b: u64, value: u64) -> Line
-    requires { (from ≤ to) × (to ≤ length bytes.now) }
-    ensures { result ≡ three_of (slice from to bytes.now) a b value }
+fn three(word: &[u8], a: u64, b: u64, value: u64) -> Option<Line>
+    ensures { result ≡ three_of word.now a b value }
 {
-    if NARROW < b {
-        return Line::Unknown;
-    }
-    let stamp = b as u32;
     let code = Code(a);
-    let amount = value;
-    let line = Line::Unknown;
-    let line = if_call(
-        bytes,
-        from,
-        to,
-        b"put_or_modify",
-        Command::PutOrModify {
-            code,
-            stamp,
-            amount,
-        },
-        line,
-    );
-    if_call(
-        bytes,
-        from,
-        to,
-        b"put",
-        Command::Put { code, stamp, value },
-        line,
-    )
+    let stamp = narrow(b)?;
+    let put = Command::Put { code, stamp, value };
+    let modify = Command::PutOrModify {
+        code,
+        stamp,
+        amount: value,
+    };
+    call_named(word, &[(b"put", put), (b"put_or_modify", modify)])
 }
 
 // A word with four numbers, the second of which is a stamp.
-fn four(bytes: &[u8], from: usize, to: usize, a: u64, b: u64, value: u64, weight: u64) -> Line
-    requires { (from ≤ to) × (to ≤ length bytes.now) }
-    ensures { result ≡ four_of (slice from to bytes.now) a b value weight }
+fn four(word: &[u8], a: u64, b: u64, value: u64, weight: u64) -> Option<Line>
+    ensures { result ≡ four_of word.now a b value weight }
 {
-    if NARROW < b {
-        return Line::Unknown;
-    }
-    let stamp = b as u32;
     let code = Code(a);
+    let stamp = narrow(b)?;
     let put = Command::PutWithWeight {
         code,
         stamp,
@@ -273,168 +196,126 @@ fn four(bytes: &[u8], from: usize, to: usize, a: u64, b: u64, value: u64, weight
         amount: value,
         ceiling: weight,
     };
-    let line = Line::Unknown;
-    let line = if_call(bytes, from, to, b"try_put_or_modify", modify, line);
-    if_call(bytes, from, to, b"putw", put, line)
+    call_named(word, &[(b"putw", put), (b"try_put_or_modify", modify)])
 }
 
 // A kind with a capacity and a slot count.
-fn kind_line(bytes: &[u8], from: usize, to: usize, capacity: u64, n: u64) -> Line
-    requires { (from ≤ to) × (to ≤ length bytes.now) }
-    ensures { result ≡ kind_line (slice from to bytes.now) capacity n }
+#[tactic(auto, using(crate::proofs::Reading::same_reads), unfolding(crate::specs::Grammar::kind_line, crate::specs::Grammar::narrow))]
+fn kind_line(word: &[u8], capacity: u64, n: u64) -> Option<Line>
+    ensures { result ≡ kind_line word.now capacity n }
 {
-    if NARROW < n {
-        return Line::Unknown;
-    }
-    let slots = n as u32;
-    if is_word(bytes, from, to, b"plain") {
-        return Line::Open {
+    let slots = narrow(n)?;
+    match word {
+        b"plain" => Some(Line::Open {
             kind: Head::PLAIN,
             capacity,
             slots,
-        };
-    }
-    if is_word(bytes, from, to, b"weighed") {
-        return Line::Open {
+        }),
+        b"weighed" => Some(Line::Open {
             kind: Head::WEIGHED,
             capacity,
             slots,
-        };
+        }),
+        _ => None,
     }
-    Line::Unknown
 }
 
-// What follows `open`, past the space at `at`.
-fn open_line(bytes: &[u8], at: usize, to: usize) -> Line
-    requires { (at ≤ to) × (to ≤ length bytes.now) }
-    ensures { result ≡ open_of (words_past (slice at to bytes.now)) }
+// What follows `open`.
+#[tactic(auto, unfolding(crate::specs::Grammar::open_of, crate::specs::Grammar::open_numbers))]
+fn open_line(rest: &[u8]) -> Option<Line>
+    ensures { result ≡ open_of (words_past rest.now) }
 {
-    if at == to {
-        return Line::Unknown;
+    let (word, rest) = next_word(rest)?;
+    match read_numbers(rest)? {
+        Numbers::Two(capacity, n) => kind_line(word, capacity, n),
+        _ => None,
     }
-    let start = at + 1;
-    let end = word_end(bytes, start, to);
-    match read_numbers(bytes, end, to) {
-        Numbers::Two(capacity, n) => kind_line(bytes, start, end, capacity, n),
-        Numbers::Nought => Line::Unknown,
-        Numbers::One(_) => Line::Unknown,
-        Numbers::Three(_, _, _) => Line::Unknown,
-        Numbers::Four(_, _, _, _) => Line::Unknown,
-        Numbers::Others => Line::Unknown,
-    }
+}
+
+// `retain` by a rule of a number, negated or not, with its bounds.
+fn keeping(number: u32, not: bool, low: u64, high: u64) -> Command
+    ensures { result ≡ keeping number not low high }
+{
+    Command::Retain(Rule {
+        number,
+        not,
+        low,
+        high,
+    })
 }
 
 // The word of a rule with one bound.
-fn bound_line(bytes: &[u8], from: usize, to: usize, negated: bool, a: u64) -> Line
-    requires { (from ≤ to) × (to ≤ length bytes.now) }
-    ensures { result ≡ bound_line negated (slice from to bytes.now) a }
+#[tactic(auto, using(crate::proofs::Reading::same_reads), unfolding(crate::specs::Grammar::bound_line, crate::specs::Grammar::narrow, crate::specs::Grammar::if_call))]
+fn bound_line(word: &[u8], negated: bool, a: u64) -> Option<Line>
+    ensures { result ≡ bound_line negated word.now a }
 {
-    let stamp = Rule {
-        number: Rule::STAMP,
-        not: negated,
-        low: a,
-        high: 0,
-    };
-    let weight = Rule {
-        number: Rule::WEIGHT,
-        not: negated,
-        low: 0,
-        high: a,
-    };
-    if is_word(bytes, from, to, b"stamp") {
-        if NARROW < a {
-            return Line::Unknown;
+    match word {
+        b"stamp" => {
+            let low = u64::from(narrow(a)?);
+            Some(Line::Call(keeping(Rule::STAMP, negated, low, 0)))
         }
-        return Line::Call(Command::Retain(stamp));
+        b"weight" => Some(Line::Call(keeping(Rule::WEIGHT, negated, 0, a))),
+        _ => None,
     }
-    let line = Line::Unknown;
-    if_call(bytes, from, to, b"weight", Command::Retain(weight), line)
 }
 
 // The word of a rule with two bounds.
-fn range_line(bytes: &[u8], from: usize, to: usize, negated: bool, low: u64, high: u64) -> Line
-    requires { (from ≤ to) × (to ≤ length bytes.now) }
-    ensures { result ≡ range_line negated (slice from to bytes.now) low high }
+fn range_line(word: &[u8], negated: bool, low: u64, high: u64) -> Option<Line>
+    ensures { result ≡ range_line negated word.now low high }
 {
-    let code = Rule {
-        number: Rule::CODE,
-        not: negated,
-        low,
-        high,
-    };
-    let value = Rule {
-        number: Rule::VALUE,
-        not: negated,
-        low,
-        high,
-    };
-    let line = Line::Unknown;
-    let line = if_call(bytes, from, to, b"value", Command::Retain(value), line);
-    if_call(bytes, from, to, b"code", Command::Retain(code), line)
+    let code = keeping(Rule::CODE, negated, low, high);
+    let value = keeping(Rule::VALUE, negated, low, high);
+    call_named(word, &[(b"code", code), (b"value", value)])
 }
 
-// A rule, past the space at `at`.
-fn rule_line(bytes: &[u8], at: usize, to: usize, negated: bool) -> Line
-    requires { (at ≤ to) × (to ≤ length bytes.now) }
-    ensures { result ≡ rule_line negated (words_past (slice at to bytes.now)) }
+// A rule.
+#[tactic(auto, unfolding(crate::specs::Grammar::rule_line, crate::specs::Grammar::rule_numbers))]
+fn rule_line(rest: &[u8], negated: bool) -> Option<Line>
+    ensures { result ≡ rule_line negated (words_past rest.now) }
 {
-    if at == to {
-        return Line::Unknown;
-    }
-    let start = at + 1;
-    let end = word_end(bytes, start, to);
-    match read_numbers(bytes, end, to) {
-        Numbers::One(a) => bound_line(bytes, start, end, negated, a),
-        Numbers::Two(a, b) => range_line(bytes, start, end, negated, a, b),
-        Numbers::Nought => Line::Unknown,
-        Numbers::Three(_, _, _) => Line::Unknown,
-        Numbers::Four(_, _, _, _) => Line::Unknown,
-        Numbers::Others => Line::Unknown,
+    let (word, rest) = next_word(rest)?;
+    match read_numbers(rest)? {
+        Numbers::One(a) => bound_line(word, negated, a),
+        Numbers::Two(a, b) => range_line(word, negated, a, b),
+        _ => None,
     }
 }
 
-// What follows `retain`, past the space at `at`.
-fn retain_line(bytes: &[u8], at: usize, to: usize) -> Line
-    requires { (at ≤ to) × (to ≤ length bytes.now) }
-    ensures { result ≡ retain_of (words_past (slice at to bytes.now)) }
+// What follows `retain`.
+#[tactic(auto, using(crate::proofs::Reading::same_reads), unfolding(crate::specs::Grammar::retain_of))]
+fn retain_line(rest: &[u8]) -> Option<Line>
+    ensures { result ≡ retain_of (words_past rest.now) }
 {
-    if at == to {
-        return Line::Unknown;
-    }
-    let start = at + 1;
-    let end = word_end(bytes, start, to);
-    if is_word(bytes, start, end, b"not") {
-        return rule_line(bytes, end, to, true);
-    }
-    rule_line(bytes, at, to, false)
-}
-
-// A word with its numbers, which stand past the space at `end`.
-fn call_line(bytes: &[u8], from: usize, end: usize, to: usize) -> Line
-    requires { (from ≤ end) × (end ≤ to) × (to ≤ length bytes.now) }
-    ensures { result ≡ call_of (slice from end bytes.now) (numbers_of (words_past (slice end to bytes.now))) }
-{
-    match read_numbers(bytes, end, to) {
-        Numbers::Nought => nought(bytes, from, end),
-        Numbers::One(a) => one(bytes, from, end, a),
-        Numbers::Two(a, b) => two(bytes, from, end, a, b),
-        Numbers::Three(a, b, c) => three(bytes, from, end, a, b, c),
-        Numbers::Four(a, b, c, d) => four(bytes, from, end, a, b, c, d),
-        Numbers::Others => Line::Unknown,
+    let (word, behind) = next_word(rest)?;
+    match word {
+        b"not" => rule_line(behind, true),
+        _ => rule_line(rest, false),
     }
 }
 
-// What the line says that stands from `from` up to `to`, its newline left out.
-pub fn understand(bytes: &[u8], from: usize, to: usize) -> Line
-    requires { (from ≤ to) × (to ≤ length bytes.now) }
-    ensures { result ≡ understood (slice from to bytes.now) }
+// A word with what is behind it.
+#[tactic(auto, unfolding(crate::specs::Grammar::call_of))]
+fn call_line(word: &[u8], rest: &[u8]) -> Option<Line>
+    ensures { result ≡ call_of word.now (numbers_of (words_past rest.now)) }
 {
-    let end = word_end(bytes, from, to);
-    if is_word(bytes, from, end, b"open") {
-        return open_line(bytes, end, to);
+    match read_numbers(rest)? {
+        Numbers::Nought => nought(word),
+        Numbers::One(a) => one(word, a),
+        Numbers::Two(a, b) => two(word, a, b),
+        Numbers::Three(a, b, c) => three(word, a, b, c),
+        Numbers::Four(a, b, c, d) => four(word, a, b, c, d),
     }
-    if is_word(bytes, from, end, b"retain") {
-        return retain_line(bytes, end, to);
+}
+
+// What a line says, its newline left out. None: it is not understood, which is refusal 8.
+#[tactic(auto, using(crate::proofs::Reading::same_reads), unfolding(crate::specs::Grammar::understood, crate::specs::Grammar::line_of))]
+pub fn understand(line: &[u8]) -> Option<Line>
+    ensures { result ≡ understood line.now }
+{
+    let (word, rest) = first_word(line);
+    match word {
+        b"open" => open_line(rest),
+        b"retain" => retain_line(rest),
+        _ => call_line(word, rest),
     }
-    call_line(bytes, from, end, to)
 }

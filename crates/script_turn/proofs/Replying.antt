@@ -5,6 +5,7 @@ use mathlib.Core.Bool.{Bool}
 use mathlib.Core.List.{List, [], ◌∷◌, ◌++◌, append_assoc, append-nil}
 use mathlib.Core.Path.{◌≡◌, refl, sym, ap, ◌∙◌, subst}
 use native.Mathlib.Omega.{arith}
+use Rattle.std.specs.Prelude.{Option}
 use lib.ListN.{length, length-append}
 use Rattle.head.specs.declared.Row.{Row}
 use Rattle.head.specs.declared.Answer.{Answer}
@@ -26,7 +27,7 @@ use Rattle.script_turn.specs.Replies.{listed, rows_from, Roomy, shown, replied}
 
 -- ---- by cases
 
-pub lists_as : (l k : Line) (b : Bool) → l ≡ k → b ≡ listed k → b ≡ listed l
+pub lists_as : (l k : Option Line) (b : Bool) → l ≡ k → b ≡ listed k → b ≡ listed l
 lists_as l k b e q = rw e q
 
 -- ---- the rows, one after another
@@ -172,8 +173,8 @@ pub taken_room : (a : Answer) (f g : Fields) {b : List ℕ} → length g.codes �
 taken_room a f g p q r s h = shown_room a g (rw (p, q, r, s) h)
 
 -- the text by the line that was understood
-pub took : {l k : Line} {stay : Bool} {s t : State} {f g : Fields} {a : Answer} {r : ℕ} {b b' : List ℕ} → l ≡ k → stay ≡ listed l → Turns l s t f g a
+pub took : {l k : Option Line} {stay : Bool} {s t : State} {f g : Fields} {a : Answer} {r : ℕ} {b b' : List ℕ} → l ≡ k → stay ≡ listed l → Turns l s t f g a
     → Laid 0 (replied stay g a) r b b'
     → Took k s t f g a r b b'
 took {l} {k} {s = s} {t} {f} {g} {a} {r} {b} {b'} e q p z =
-    subst (λ (x : Line). Took x s t f g a r b b') e (record { turns = p; text = rw (← q) z })
+    subst (λ (x : Option Line). Took x s t f g a r b b') e (record { turns = p; text = rw (← q) z })

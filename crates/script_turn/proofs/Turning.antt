@@ -1,6 +1,7 @@
 -- A line carried out, by what it says.
 -- Assumes nothing.
 use Prim.Native.Nat.{ℕ}
+use Rattle.std.specs.Prelude.{Option, Some, None}
 use mathlib.Core.Path.{◌≡◌, sym, ap, ◌∙◌, subst}
 use Rattle.head.specs.declared.Head.{Head}
 use Rattle.head.specs.declared.Answer.{Answer}
@@ -16,7 +17,7 @@ use Rattle.opening.specs.declared.Opened.{Opened}
 use Rattle.opening.specs.declared.Opened.TheVariants.{Cache as Began, No as NotBegun}
 use Rattle.opening.specs.Begun.{Opens}
 use Rattle.script_read.specs.declared.Line.{Line}
-use Rattle.script_read.specs.declared.Line.TheVariants.{Open, Call, Unknown}
+use Rattle.script_read.specs.declared.Line.TheVariants.{Open, Call}
 use Rattle.script_turn.specs.Turned.{begun, Opening, Turns}
 
 -- a state with another head
@@ -42,12 +43,12 @@ module _ {kind c n : ℕ} {s t : State} {o : Opened} (h : Head) {r : Said} (p : 
         (ap (λ (y : Said). y.answer) z, (λ i. under (z i).head (g.1 i)));
   }
 
-module _ {l : Line} {s t : State} {rows rows' : Fields} {a : Answer} where
-  pub turn_open : {kind c n : ℕ} → l ≡ Open kind c n → Opening kind c n s t a → rows' ≡ rows → Turns l s t rows rows' a
+module _ {l : Option Line} {s t : State} {rows rows' : Fields} {a : Answer} where
+  pub turn_open : {kind c n : ℕ} → l ≡ Some (Open kind c n) → Opening kind c n s t a → rows' ≡ rows → Turns l s t rows rows' a
   turn_open e p q = rw e (p, q)
 
-  pub turn_call : {m : Command} → l ≡ Call m → Calls m s t rows rows' a → Turns l s t rows rows' a
+  pub turn_call : {m : Command} → l ≡ Some (Call m) → Calls m s t rows rows' a → Turns l s t rows rows' a
   turn_call e p = rw e p
 
-  pub turn_unknown : l ≡ Unknown → a ≡ No NotUnderstood → t ≡ s → rows' ≡ rows → Turns l s t rows rows' a
+  pub turn_unknown : l ≡ None → a ≡ No NotUnderstood → t ≡ s → rows' ≡ rows → Turns l s t rows rows' a
   turn_unknown e p q z = rw e (p, q, z)

@@ -1,6 +1,6 @@
 -- What is written for an answer and its rows.
 -- Assumes nothing.
-use Rattle.std.specs.Prelude.{ℕ, suc, ◌*◌, ◌≤◌, min, Bool, true, false, List, length}
+use Rattle.std.specs.Prelude.{ℕ, suc, ◌*◌, ◌≤◌, min, Bool, true, false, List, Option, Some, None, length}
 use Rattle.head.specs.declared.Row.{Row}
 use Rattle.head.specs.declared.Answer.{Answer}
 use Rattle.head.specs.declared.Form.{Form}
@@ -12,7 +12,7 @@ use Rattle.model.specs.Slots.{up_from}
 use Rattle.store.specs.State.{gather}
 use Rattle.script_write.specs.Lines.{most_line, row_word, lines}
 use Rattle.script_read.specs.declared.Line.{Line}
-use Rattle.script_read.specs.declared.Line.TheVariants.{Open, Call, Unknown}
+use Rattle.script_read.specs.declared.Line.TheVariants.{Open, Call}
 
 -- a listing's rows stay in the cache; those of every other call have left it
 abbrev pub is_listing : Form → Bool
@@ -22,10 +22,10 @@ is_listing Acting = false
 is_listing Handing = false
 
 -- the same of a line
-abbrev pub listed : Line → Bool
-listed (Open kind c n) = false
-listed (Call m) = is_listing (form_of m)
-listed Unknown = false
+abbrev pub listed : Option Line → Bool
+listed (Some (Open kind c n)) = false
+listed (Some (Call m)) = is_listing (form_of m)
+listed None = false
 
 -- the first n rows of four lists
 abbrev pub rows_from : ℕ → Fields → List Row

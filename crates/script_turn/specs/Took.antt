@@ -1,6 +1,6 @@
 -- One line, from its bytes to the text of its answer.
 -- Assumes nothing.
-use Rattle.std.specs.Prelude.{ℕ, suc, ◌*◌, ◌≤◌, List, length}
+use Rattle.std.specs.Prelude.{ℕ, suc, ◌*◌, ◌≤◌, List, Option, length}
 use Rattle.head.specs.declared.Answer.{Answer}
 use Rattle.head.specs.Fields.{Fields}
 use Rattle.plan.specs.States.{State}
@@ -11,13 +11,11 @@ use Rattle.script_read.specs.declared.Line.{Line}
 use Rattle.script_turn.specs.Turned.{Turns}
 use Rattle.script_turn.specs.Replies.{listed, replied}
 
--- the line lies in the input, and the buffer has room for the lines of all rows lent and one more
-pub record Takes (input : List ℕ) (from to : ℕ) (rows : Fields) (out : List ℕ) : Type 0 where
-  pub ordered : from ≤ to
-  pub inside : to ≤ length input
+-- the buffer has room for the lines of all rows lent and one more
+pub record Takes (rows : Fields) (out : List ℕ) : Type 0 where
   pub room : suc (shortest rows) * most_line ≤ length out
 
 -- the line is carried out, and the text of its answer stands at the beginning of the buffer
-pub record Took (l : Line) (s t : State) (rows rows' : Fields) (a : Answer) (size : ℕ) (out out' : List ℕ) : Type 0 where
+pub record Took (l : Option Line) (s t : State) (rows rows' : Fields) (a : Answer) (size : ℕ) (out out' : List ℕ) : Type 0 where
   pub turns : Turns l s t rows rows' a
   pub text : Laid 0 (replied (listed l) rows' a) size out out'

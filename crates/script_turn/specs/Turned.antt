@@ -1,6 +1,6 @@
 -- What carrying out a line leaves.
 -- Assumes nothing.
-use Rattle.std.specs.Prelude.{ℕ, ◌≡◌}
+use Rattle.std.specs.Prelude.{ℕ, Option, Some, None, ◌≡◌}
 use Rattle.head.specs.declared.Head.{Head}
 use Rattle.head.specs.declared.Answer.{Answer}
 use Rattle.head.specs.declared.Answer.TheVariants.{No, Done}
@@ -16,7 +16,7 @@ use Rattle.opening.specs.declared.Opened.{Opened}
 use Rattle.opening.specs.declared.Opened.TheVariants.{Cache as Began, No as NotBegun}
 use Rattle.opening.specs.Begun.{spacious}
 use Rattle.script_read.specs.declared.Line.{Line}
-use Rattle.script_read.specs.declared.Line.TheVariants.{Open, Call, Unknown}
+use Rattle.script_read.specs.declared.Line.TheVariants.{Open, Call}
 
 -- what opening says, beside the head that stood
 abbrev pub begun : Head → Opened → Said
@@ -29,7 +29,7 @@ pub record Opening (kind c n : ℕ) (s t : State) (a : Answer) : Type 0 where
   pub refuses : (e : Refusal) → opening kind c n (spacious n s) ≡ refused e → (a ≡ No e) × (t ≡ s)
 
 -- an opening starts anew; a call is the door's; what is not understood touches nothing
-abbrev pub Turns : Line → State → State → Fields → Fields → Answer → Type 0
-Turns (Open kind c n) s t rows rows' a = Opening kind c n s t a × (rows' ≡ rows)
-Turns (Call m) s t rows rows' a = Calls m s t rows rows' a
-Turns Unknown s t rows rows' a = (a ≡ No NotUnderstood) × (t ≡ s) × (rows' ≡ rows)
+abbrev pub Turns : Option Line → State → State → Fields → Fields → Answer → Type 0
+Turns (Some (Open kind c n)) s t rows rows' a = Opening kind c n s t a × (rows' ≡ rows)
+Turns (Some (Call m)) s t rows rows' a = Calls m s t rows rows' a
+Turns None s t rows rows' a = (a ≡ No NotUnderstood) × (t ≡ s) × (rows' ≡ rows)

@@ -6,7 +6,6 @@ ghost use Rattle.store.specs.State.{fields};
 ghost use Rattle.plan.specs.States.{state};
 ghost use Rattle.script_digits.specs.Laid.{Laid};
 ghost use Rattle.script_write.specs.Lines.{row_word, row_lines};
-ghost use Rattle.std.proofs.Math.Seq.{slice};
 ghost use Rattle.script_read.specs.Grammar.{understood};
 ghost use Rattle.script_turn.specs.Turned.{begun, Turns};
 ghost use Rattle.script_turn.specs.Took.{Takes, Took};
@@ -48,10 +47,16 @@ pub fn carry_out(
     row_stamps: &mut [u32],
     row_values: &mut [u64],
     row_weights: &mut [u64],
-    line: Line,
+    line: Option<Line>,
 ) -> Said
     ensures { Turns line (state head codes.old stamps.old values.old weights.old next.old prev.old stack.old cells.old) (state result.head codes.new stamps.new values.new weights.new next.new prev.new stack.new cells.new) (fields row_codes.old row_stamps.old row_values.old row_weights.old) (fields row_codes.new row_stamps.new row_values.new row_weights.new) result.answer }
 {
+    let Some(line) = line else {
+        return Said {
+            head,
+            answer: Answer::No(Refusal::NotUnderstood),
+        };
+    };
     match line {
         Line::Open {
             kind,
@@ -79,10 +84,6 @@ pub fn carry_out(
             row_weights,
             command,
         ),
-        Line::Unknown => Said {
-            head,
-            answer: Answer::No(Refusal::NotUnderstood),
-        },
     }
 }
 
@@ -99,17 +100,15 @@ fn stays(form: Form) -> bool
 }
 
 // The same of a line.
-pub fn lists(line: Line) -> bool
+pub fn lists(line: Option<Line>) -> bool
     ensures { result ≡ listed line }
 {
+    let Some(line) = line else {
+        return false;
+    };
     match line {
-        Line::Open {
-            kind: _,
-            capacity: _,
-            slots: _,
-        } => false,
+        Line::Open { .. } => false,
         Line::Call(command) => stays(command.form()),
-        Line::Unknown => false,
     }
 }
 
@@ -186,9 +185,7 @@ pub struct Turned {
 
 // One line, from its bytes to the text of its answer.
 pub fn take(
-    input: &[u8],
-    from: usize,
-    to: usize,
+    line: &[u8],
     head: Head,
     codes: &mut [u64],
     stamps: &mut [u32],
@@ -204,11 +201,11 @@ pub fn take(
     row_weights: &mut [u64],
     out: &mut [u8],
 ) -> Turned
-    requires { Takes input.now from to (fields row_codes.old row_stamps.old row_values.old row_weights.old) out.old }
-    ensures { Took (understood (slice from to input.now)) (state head codes.old stamps.old values.old weights.old next.old prev.old stack.old cells.old) (state result.head codes.new stamps.new values.new weights.new next.new prev.new stack.new cells.new) (fields row_codes.old row_stamps.old row_values.old row_weights.old) (fields row_codes.new row_stamps.new row_values.new row_weights.new) result.answer result.size out.old out.new }
+    requires { Takes (fields row_codes.old row_stamps.old row_values.old row_weights.old) out.old }
+    ensures { Took (understood line.now) (state head codes.old stamps.old values.old weights.old next.old prev.old stack.old cells.old) (state result.head codes.new stamps.new values.new weights.new next.new prev.new stack.new cells.new) (fields row_codes.old row_stamps.old row_values.old row_weights.old) (fields row_codes.new row_stamps.new row_values.new row_weights.new) result.answer result.size out.old out.new }
 {
-    let line = script_read::understand(input, from, to);
-    let stay = lists(line);
+    let understood = script_read::understand(line);
+    let stay = lists(understood);
     let said = carry_out(
         head,
         codes,
@@ -223,7 +220,7 @@ pub fn take(
         row_stamps,
         row_values,
         row_weights,
-        line,
+        understood,
     );
     let answer = said.answer;
     let size = reply(

@@ -1,18 +1,16 @@
--- `script_read::bound_line` meets its contract: one keyword after another.
+-- `script_read::bound_line` meets its contract.
 -- Assumes nothing.
-use mathlib.Core.Path.{refl, ◌∙◌}
-use Rattle.script_read.specs.Grammar.{bound_line}
-use Rattle.script_read.proofs.Saying.{is_so, is_not, too_wide, fits_narrow}
+use mathlib.Core.Bool.{false}
+use mathlib.Core.Path.{◌≡◌}
+use Rattle.std.proofs.Common.{arith}
+use Rattle.script_read.specs.Keywords.{same, stamp_word, weight_word}
+use Rattle.script_read.specs.Grammar.{bound_line, if_call}
+use Rattle.script_read.proofs.Reading.{same_reads}
 use Rattle.script_read.proofs.bound_line.Goals as goal
 
-pub returns-then-a-gt-NARROW : goal.returns-then-a-gt-NARROW
-unfolding bound_line
-returns-then-a-gt-NARROW c = too_wide _ _ c.if-a-gt-NARROW.true ∙ is_so _ _ c.is_word.ensures c.if-is_word.true
-
-pub returns-then-is_word : goal.returns-then-is_word
-unfolding bound_line
-returns-then-is_word c = fits_narrow _ c.if-a-gt-NARROW.false refl ∙ is_so _ _ c.is_word.ensures c.if-is_word.true
-
-pub returns : goal.returns
-unfolding bound_line
-returns c = is_not _ c.is_word.ensures c.if-is_word.false c.if_call.ensures
+pub returns-in_default-12 : goal.returns-in_default-12
+unfolding bound_line if_call
+returns-in_default-12 c =
+    let s : same c.args.word.now stamp_word ≡ false = grind (arith, same_reads) in
+    let t : same c.args.word.now weight_word ≡ false = grind (arith, same_reads) in
+    rw (s, t)

@@ -1,16 +1,9 @@
--- `script_read::range_line` meets its contract: one keyword after another.
+-- `script_read::range_line` meets its contract: its table is the definition's.
 -- Assumes nothing.
-use mathlib.Core.Path.{refl}
+use mathlib.Core.Path.{sym}
 use Rattle.script_read.specs.Grammar.{range_line}
-use Rattle.script_read.proofs.Saying.{or_else}
 use Rattle.script_read.proofs.range_line.Goals as goal
-
-pub if_call-line-requires : goal.if_call-line-requires
-if_call-line-requires c = c.requires
-
-pub if_call-requires : goal.if_call-requires
-if_call-requires c = c.requires
 
 pub returns : goal.returns
 unfolding range_line
-returns c = or_else _ _ _ c.if_call.ensures (or_else _ _ _ c.if_call-line.ensures refl)
+returns c = rw (sym c.keeping-code.ensures, sym c.keeping-value.ensures) c.call_named.ensures

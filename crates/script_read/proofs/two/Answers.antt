@@ -1,16 +1,8 @@
--- `script_read::two` meets its contract: one keyword after another.
+-- `script_read::two` meets its contract: its table is the definition's.
 -- Assumes nothing.
-use mathlib.Core.Path.{refl}
 use Rattle.script_read.specs.Grammar.{two_of}
-use Rattle.script_read.proofs.Saying.{or_else}
 use Rattle.script_read.proofs.two.Goals as goal
-
-pub if_call-line-requires : goal.if_call-line-requires
-if_call-line-requires c = c.requires
-
-pub if_call-requires : goal.if_call-requires
-if_call-requires c = c.requires
 
 pub returns : goal.returns
 unfolding two_of
-returns c = or_else _ _ _ c.if_call.ensures (or_else _ _ _ c.if_call-line.ensures refl)
+returns c = c.call_named.ensures

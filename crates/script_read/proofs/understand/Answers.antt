@@ -1,13 +1,17 @@
--- `script_read::understand` meets its contract: `open`, `retain`, or a call.
+-- `script_read::understand` meets its contract. The answer is for a first word that is shorter than each keyword.
 -- Assumes nothing.
-use Rattle.script_read.proofs.Saying.{says_open, says_retain, says_call}
+use mathlib.Core.Bool.{false}
+use mathlib.Core.Path.{◌≡◌}
+use Rattle.std.proofs.Common.{arith}
+use Rattle.script_read.specs.Keywords.{same, open_word, retain_word}
+use Rattle.script_read.specs.Grammar.{line_of, understood}
+use Rattle.script_read.proofs.Reading.{same_reads}
 use Rattle.script_read.proofs.understand.Goals as goal
 
-pub returns-then-is_word : goal.returns-then-is_word
-returns-then-is_word c = says_open _ _ _ _ c.word_end-end.ensures c.is_word.ensures c.if-is_word.true c.open_line.ensures
-
-pub returns-then-is_word-2 : goal.returns-then-is_word-2
-returns-then-is_word-2 c = says_retain _ _ _ _ c.word_end-end.ensures c.is_word.ensures c.if-is_word.false c.is_word-2.ensures c.if-is_word-2.true c.retain_line.ensures
-
-pub returns : goal.returns
-returns c = says_call _ _ _ _ c.word_end-end.ensures c.is_word.ensures c.if-is_word.false c.is_word-2.ensures c.if-is_word-2.false c.call_line.ensures
+pub returns-in_default : goal.returns-in_default
+unfolding understood line_of
+returns-in_default c =
+    let w = c.first_word.result.0.now in
+    let s : same w open_word ≡ false = grind (arith, same_reads) in
+    let t : same w retain_word ≡ false = grind (arith, same_reads) in
+    rw (c.first_word.ensures.words, s, t) c.call_line.ensures
