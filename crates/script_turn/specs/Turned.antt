@@ -1,6 +1,6 @@
 -- What carrying out a line leaves.
 -- Assumes nothing.
-use Rattle.std.specs.Prelude.{ℕ, Option, Some, None, ◌≡◌}
+use Rattle.std.specs.Prelude.{ℕ, Option, Some, None, Result, Ok, Err, ◌≡◌}
 use Rattle.head.specs.declared.Head.{Head}
 use Rattle.head.specs.declared.Answer.{Answer}
 use Rattle.head.specs.declared.Answer.TheVariants.{No, Done}
@@ -10,18 +10,15 @@ use Rattle.head.specs.Fields.{Fields}
 use Rattle.model.specs.Perform.{Cache, opening, refused, opened}
 use Rattle.store.specs.Acts.{Tails}
 use Rattle.plan.specs.States.{State, Means}
-use Rattle.door.specs.declared.Said.{Said}
 use Rattle.door.specs.Served.{Calls}
-use Rattle.opening.specs.declared.Opened.{Opened}
-use Rattle.opening.specs.declared.Opened.TheVariants.{Cache as Began, No as NotBegun}
 use Rattle.opening.specs.Begun.{spacious}
 use Rattle.script_read.specs.declared.Line.{Line}
 use Rattle.script_read.specs.declared.Line.TheVariants.{Open, Call}
 
--- what opening says, beside the head that stood
-abbrev pub begun : Head → Opened → Said
-begun h (Began fresh) = record { head = fresh; answer = Done 0 }
-begun h (NotBegun r) = record { head = h; answer = No r }
+-- what opening says
+abbrev pub begun : Result Head Refusal → Answer
+begun (Ok fresh) = Done 0
+begun (Err r) = No r
 
 -- opened, the fresh cache is described and what lies past N slots stays; refused, nothing is touched
 pub record Opening (kind c n : ℕ) (s t : State) (a : Answer) : Type 0 where

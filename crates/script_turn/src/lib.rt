@@ -1,9 +1,8 @@
-// One line of the script, carried out on the lent lists.
+// One line of the script, carried out on a state that is lent.
 #![tactic(auto)]
 
-ghost use Rattle.std.specs.Prelude.{◌≡◌, min};
-ghost use Rattle.store.specs.State.{fields};
-ghost use Rattle.plan.specs.States.{state};
+ghost use Rattle.std.specs.Prelude.{◌≡◌};
+ghost use Rattle.state.specs.State.{held, lent, viewed, SameFields, SameLists};
 ghost use Rattle.script_digits.specs.Laid.{Laid};
 ghost use Rattle.script_write.specs.Lines.{row_word, row_lines};
 ghost use Rattle.script_read.specs.Grammar.{understood};
@@ -11,79 +10,34 @@ ghost use Rattle.script_turn.specs.Turned.{begun, Turns};
 ghost use Rattle.script_turn.specs.Took.{Takes, Took};
 ghost use Rattle.script_turn.specs.Replies.{is_listing, listed, rows_from, Roomy, shown, replied};
 
-use door::Said;
 use head::{Answer, Form, Head, Refusal};
-use opening::Opened;
 use script_read::Line;
+use state::{Fields, FieldsView, State};
 
-// What opening says: the fresh head, or the refusal beside the head that stood.
-fn begin(head: Head, opened: Opened) -> Said
-    ensures { result ≡ begun head opened }
+// What opening says.
+fn begin(opened: Result<Head, Refusal>) -> Answer
+    ensures { result ≡ begun opened }
 {
     match opened {
-        Opened::Cache(fresh) => Said {
-            head: fresh,
-            answer: Answer::Done { rows: 0 },
-        },
-        Opened::No(refusal) => Said {
-            head,
-            answer: Answer::No(refusal),
-        },
+        Ok(_) => Answer::Done { rows: 0 },
+        Err(refusal) => Answer::No(refusal),
     }
 }
 
 // Carries a line out. What is not understood is refusal 8, whatever the state.
-pub fn carry_out(
-    head: Head,
-    codes: &mut [u64],
-    stamps: &mut [u32],
-    values: &mut [u64],
-    weights: &mut [u64],
-    next: &mut [u32],
-    prev: &mut [u32],
-    stack: &mut [u32],
-    cells: &mut [u32],
-    row_codes: &mut [u64],
-    row_stamps: &mut [u32],
-    row_values: &mut [u64],
-    row_weights: &mut [u64],
-    line: Option<Line>,
-) -> Said
-    ensures { Turns line (state head codes.old stamps.old values.old weights.old next.old prev.old stack.old cells.old) (state result.head codes.new stamps.new values.new weights.new next.new prev.new stack.new cells.new) (fields row_codes.old row_stamps.old row_values.old row_weights.old) (fields row_codes.new row_stamps.new row_values.new row_weights.new) result.answer }
+pub fn carry_out(state: &mut State<'_>, rows: &mut Fields<'_>, line: Option<Line>) -> Answer
+    ensures lists { SameLists state.old state.new }
+    ensures row_lists { SameFields rows.old rows.new }
+    ensures turns { Turns line (lent state.old) (lent state.new) (held rows.old) (held rows.new) result }
 {
-    let Some(line) = line else {
-        return Said {
-            head,
-            answer: Answer::No(Refusal::NotUnderstood),
-        };
-    };
     match line {
-        Line::Open {
+        Some(Line::Open {
             kind,
             capacity,
             slots,
-        } => {
-            let opened = opening::open(
-                kind, capacity, slots, codes, stamps, values, weights, next, prev, stack, cells,
-            );
-            begin(head, opened)
-        }
-        Line::Call(command) => door::call(
-            head,
-            codes,
-            stamps,
-            values,
-            weights,
-            next,
-            prev,
-            stack,
-            cells,
-            row_codes,
-            row_stamps,
-            row_values,
-            row_weights,
-            command,
-        ),
+        }) => begin(opening::open(kind, capacity, slots, state)),
+        Some(Line::Call(command)) => door::call(state, rows, command),
+        None => Answer::No(Refusal::NotUnderstood),
     }
 }
 
@@ -91,151 +45,58 @@ pub fn carry_out(
 fn stays(form: Form) -> bool
     ensures { result ≡ is_listing form }
 {
-    match form {
-        Form::Reading => false,
-        Form::Listing => true,
-        Form::Acting => false,
-        Form::Handing => false,
-    }
+    matches!(form, Form::Listing)
 }
 
 // The same of a line.
 pub fn lists(line: Option<Line>) -> bool
     ensures { result ≡ listed line }
 {
-    let Some(line) = line else {
-        return false;
-    };
     match line {
-        Line::Open { .. } => false,
-        Line::Call(command) => stays(command.form()),
+        Some(Line::Call(command)) => stays(command.form()),
+        Some(Line::Open { .. }) | None => false,
     }
 }
 
 // Writes the lines of the first n rows.
-fn write_rows(
-    buffer: &mut [u8],
-    stay: bool,
-    row_codes: &[u64],
-    row_stamps: &[u32],
-    row_values: &[u64],
-    row_weights: &[u64],
-    n: u32,
-) -> usize
-    requires { Roomy n (fields row_codes.now row_stamps.now row_values.now row_weights.now) buffer.old }
-    ensures { Laid 0 (row_lines (row_word stay) (rows_from n (fields row_codes.now row_stamps.now row_values.now row_weights.now))) result buffer.old buffer.new }
+fn write_rows(buffer: &mut [u8], stay: bool, rows: &FieldsView<'_>, n: u32) -> usize
+    requires { Roomy n (viewed rows.now) buffer.old }
+    ensures { Laid 0 (row_lines (row_word stay) (rows_from n (viewed rows.now))) result buffer.old buffer.new }
 {
     let mut at: usize = 0;
-    let mut j: u32 = 0;
-    while j < n {
-        let row = store::read(row_codes, row_stamps, row_values, row_weights, j);
-        at = script_write::write_row(buffer, at, stay, row);
-        j += 1;
+    for j in 0..n {
+        at = script_write::write_row(buffer, at, stay, rows.read(j));
     }
     at
 }
 
-// The smaller of a count and a list's length.
-fn at_most(n: u32, length: usize) -> u32
-    ensures { result ≡ min n length }
-{
-    if length < (n as usize) {
-        return length as u32;
-    }
-    n
-}
-
 // Writes the whole text of an answer: the lines of its rows, and the closing line. It answers how long the text is.
-pub fn reply(
-    buffer: &mut [u8],
-    stay: bool,
-    row_codes: &[u64],
-    row_stamps: &[u32],
-    row_values: &[u64],
-    row_weights: &[u64],
-    answer: Answer,
-) -> usize
-    requires { Roomy (shown answer (fields row_codes.now row_stamps.now row_values.now row_weights.now)) (fields row_codes.now row_stamps.now row_values.now row_weights.now) buffer.old }
-    ensures { Laid 0 (replied stay (fields row_codes.now row_stamps.now row_values.now row_weights.now) answer) result buffer.old buffer.new }
+pub fn reply(buffer: &mut [u8], stay: bool, rows: &FieldsView<'_>, answer: Answer) -> usize
+    requires { Roomy (shown answer (viewed rows.now)) (viewed rows.now) buffer.old }
+    ensures { Laid 0 (replied stay (viewed rows.now) answer) result buffer.old buffer.new }
 {
-    let n = answer.rows();
-    let a = at_most(n, row_codes.len());
-    let b = at_most(a, row_stamps.len());
-    let c = at_most(b, row_values.len());
-    let d = at_most(c, row_weights.len());
-    let at = write_rows(
-        buffer,
-        stay,
-        row_codes,
-        row_stamps,
-        row_values,
-        row_weights,
-        d,
-    );
+    let n = rows.room().min(answer.rows() as usize) as u32;
+    let at = write_rows(buffer, stay, rows, n);
     script_write::write_answer(buffer, at, answer)
 }
 
-// What a line left: the head, the answer, and how much of the buffer its text takes.
+// What a line says in return: the answer, and how much of the buffer its text takes.
 #[derive(Clone, Copy)]
 pub struct Turned {
-    pub head: Head,
     pub answer: Answer,
     pub size: usize,
 }
 
 // One line, from its bytes to the text of its answer.
-pub fn take(
-    line: &[u8],
-    head: Head,
-    codes: &mut [u64],
-    stamps: &mut [u32],
-    values: &mut [u64],
-    weights: &mut [u64],
-    next: &mut [u32],
-    prev: &mut [u32],
-    stack: &mut [u32],
-    cells: &mut [u32],
-    row_codes: &mut [u64],
-    row_stamps: &mut [u32],
-    row_values: &mut [u64],
-    row_weights: &mut [u64],
-    out: &mut [u8],
-) -> Turned
-    requires { Takes (fields row_codes.old row_stamps.old row_values.old row_weights.old) out.old }
-    ensures { Took (understood line.now) (state head codes.old stamps.old values.old weights.old next.old prev.old stack.old cells.old) (state result.head codes.new stamps.new values.new weights.new next.new prev.new stack.new cells.new) (fields row_codes.old row_stamps.old row_values.old row_weights.old) (fields row_codes.new row_stamps.new row_values.new row_weights.new) result.answer result.size out.old out.new }
+pub fn take(line: &[u8], state: &mut State<'_>, rows: &mut Fields<'_>, out: &mut [u8]) -> Turned
+    requires { Takes (held rows.old) out.old }
+    ensures lists { SameLists state.old state.new }
+    ensures row_lists { SameFields rows.old rows.new }
+    ensures took { Took (understood line.now) (lent state.old) (lent state.new) (held rows.old) (held rows.new) result.answer result.size out.old out.new }
 {
     let understood = script_read::understand(line);
     let stay = lists(understood);
-    let said = carry_out(
-        head,
-        codes,
-        stamps,
-        values,
-        weights,
-        next,
-        prev,
-        stack,
-        cells,
-        row_codes,
-        row_stamps,
-        row_values,
-        row_weights,
-        understood,
-    );
-    let answer = said.answer;
-    let size = reply(
-        out,
-        stay,
-        row_codes,
-        row_stamps,
-        row_values,
-        row_weights,
-        answer,
-    );
-    let left = said.head;
-    Turned {
-        head: left,
-        answer,
-        size,
-    }
+    let answer = carry_out(state, rows, understood);
+    let size = reply(out, stay, &rows.view(), answer);
+    Turned { answer, size }
 }

@@ -76,15 +76,10 @@ impl Fields<'_> {
         }
     }
 
-    // How many rows there is room for: as many as the shortest list holds.
     pub fn room(&self) -> usize
         ensures { result ≡ shortest (held self.now) }
     {
-        self.codes.len().min(
-            self.stamps
-                .len()
-                .min(self.values.len().min(self.weights.len())),
-        )
+        self.view().room()
     }
 
     // Writes an entry, or a row, at a place of the four lists.
@@ -102,6 +97,17 @@ impl Fields<'_> {
 }
 
 impl FieldsView<'_> {
+    // How many rows there is room for: as many as the shortest list holds.
+    pub fn room(&self) -> usize
+        ensures { result ≡ shortest (viewed self.now) }
+    {
+        self.codes.len().min(
+            self.stamps
+                .len()
+                .min(self.values.len().min(self.weights.len())),
+        )
+    }
+
     // The entry, or the row, at a place of the four lists.
     pub fn read(&self, at: u32) -> Row
         requires { Writable at (viewed self.now) }
