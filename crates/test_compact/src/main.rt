@@ -11,7 +11,7 @@ use std::cmp::Ordering;
 use std::io;
 use test_kit::line::Order;
 use test_kit::links::Links;
-use test_kit::{Count, Draws};
+use test_kit::{Count, draw};
 
 // The weight of the head, which no turn changes.
 const WEIGHT: u64 = 5;
@@ -230,7 +230,7 @@ struct World {
     lists: Lists,
     order: Order,
     capacity: u64,
-    draws: Draws,
+    seed: u64,
     tally: Tally,
 }
 
@@ -244,7 +244,7 @@ impl World {
             },
             order: Order::new(alloc),
             capacity: 12,
-            draws: Draws(1),
+            seed: 1,
             tally: Tally::default(),
         }
     }
@@ -285,8 +285,9 @@ impl World {
 
     // One turn on both sides, which are then compared. So many turns are left.
     fn turn(&mut self, left: u64) -> Result<(), AllocError> {
-        let r = self.draws.next();
-        let q = self.draws.next();
+        let r = draw(self.seed);
+        let q = draw(r);
+        self.seed = q;
         let act = Act::drawn(r, q, u64::from(self.order.live()), self.capacity);
         self.tally.note(act, self.capacity);
         // Each turn's own mark.

@@ -6,28 +6,21 @@ use std::fmt;
 pub mod line;
 pub mod links;
 
-// A run of numbers below 65536 that takes each of them once.
-#[derive(Clone, Copy)]
-pub struct Draws(pub u64);
-
-impl Draws {
-    pub fn next(&mut self) -> u64 {
-        self.0 = (self.0 % 65536 * 25173 + 13849) % 65536;
-        self.0
-    }
+// The low 32 bits.
+pub fn narrow(x: u64) -> u32 {
+    (x % 4294967296) as u32
 }
 
-// The numbers of a generator (xorshift).
-#[derive(Clone, Copy)]
-pub struct Xorshift(pub u64);
+// The next of a run of numbers below 65536 that takes each of them once.
+pub fn draw(x: u64) -> u64 {
+    (x % 65536 * 25173 + 13849) % 65536
+}
 
-impl Xorshift {
-    pub fn next(&mut self) -> u64 {
-        self.0 ^= self.0 << 13;
-        self.0 ^= self.0 >> 7;
-        self.0 ^= self.0 << 17;
-        self.0
-    }
+// The next number of a generator (xorshift).
+pub fn shaken(seed: u64) -> u64 {
+    let a = seed ^ (seed << 13);
+    let b = a ^ (a >> 7);
+    b ^ (b << 17)
 }
 
 // How often something was met.

@@ -48,12 +48,6 @@ impl Order {
         self.entries.iter().position(|entry| entry.slot == slot)
     }
 
-    // The mark of a slot, none where it is not in use.
-    pub fn mark_of(&self, slot: Slot) -> Option<u64> {
-        let place = self.place_of(slot)?;
-        Some(self.entries[place].mark)
-    }
-
     // The slot that the next entry takes: the last of the pile, or the first never used.
     fn take_slot(&mut self) -> Option<Slot>
         ensures { self.new.entries ≡ self.old.entries }

@@ -6,7 +6,7 @@ use std::alloc::{AllocError, Global};
 use std::io;
 use test_kit::line::Order;
 use test_kit::links::Links;
-use test_kit::{Count, Draws};
+use test_kit::{Count, draw};
 
 // What a turn does, with the place of the order that it is for, or how many leave.
 #[derive(Clone, Copy)]
@@ -64,7 +64,7 @@ impl Tally {
 struct World {
     list: Links,
     order: Order,
-    draws: Draws,
+    seed: u64,
     tally: Tally,
 }
 
@@ -74,7 +74,7 @@ impl World {
         World {
             list: Links::bare(World::head()),
             order: Order::new(alloc),
-            draws: Draws(1),
+            seed: 1,
             tally: Tally::default(),
         }
     }
@@ -112,8 +112,9 @@ impl World {
 
     // One turn on both sides, which are then compared.
     fn turn(&mut self) -> Result<(), AllocError> {
-        let r = self.draws.next();
-        let q = self.draws.next();
+        let r = draw(self.seed);
+        let q = draw(r);
+        self.seed = q;
         let act = Act::drawn(r, q, u64::from(self.order.live()));
         self.act(act)?;
         self.tally.note(act);
