@@ -40,7 +40,7 @@ fn row_of(mark: u64) -> Row {
 }
 
 // The numbers of the entries, slot by slot.
-#[derive(Clone, Copy, Debug, PartialEq, Eq)]
+#[derive(Debug, Clone, Copy, PartialEq, Eq)]
 pub struct Fields {
     pub codes: [u64; 16],
     pub stamps: [u32; 16],
@@ -81,7 +81,7 @@ impl Fields {
 }
 
 // The list with its fields.
-#[derive(Clone, Copy, Debug, PartialEq, Eq)]
+#[derive(Debug, Clone, Copy, PartialEq, Eq)]
 pub struct Lists {
     pub links: Links,
     pub fields: Fields,

@@ -6,11 +6,6 @@ use std::fmt;
 pub mod line;
 pub mod links;
 
-// The low 32 bits.
-pub fn narrow(x: u64) -> u32 {
-    (x % 4294967296) as u32
-}
-
 // The next of a run of numbers below 65536 that takes each of them once.
 pub fn draw(x: u64) -> u64 {
     (x % 65536 * 25173 + 13849) % 65536

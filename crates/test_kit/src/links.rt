@@ -6,7 +6,7 @@ ghost use Rattle.list.specs.Promises.{Held, Room};
 use head::{Head, Slot};
 
 // The list: its head and its links.
-#[derive(Clone, Copy, Debug, PartialEq, Eq)]
+#[derive(Debug, Clone, Copy, PartialEq, Eq)]
 pub struct Links {
     pub head: Head,
     pub next: [u32; 16],
