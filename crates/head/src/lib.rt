@@ -114,7 +114,7 @@ pub struct Row {
     pub weight: u64,
 }
 
-// Which entries `retain` keeps. The number comes from outside, so it may name no rule.
+// Which entries `retain` keeps.
 #[derive(Debug, Clone, Copy, PartialEq, Eq)]
 pub struct Rule {
     // CODE and VALUE: from low to high, both included. STAMP: at least low. WEIGHT: at most high. The other bound is not read.
