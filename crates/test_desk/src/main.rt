@@ -9,14 +9,14 @@ use std::rt::Files;
 fn play_file(rt: &(impl Files + Print), name: &str) -> io::Result<()> {
     println!(rt; "= {name}")?;
     let Ok(mut file) = File::open(rt, name) else {
-        return rt.write_all(b"missing\n");
+        return println!(rt; "missing");
     };
     script_play::desk(rt, &mut file)
 }
 
 fn main(rt: HostRuntime) -> io::Result<()> {
-    play_file(&rt, "full")?;
-    play_file(&rt, "over")?;
-    play_file(&rt, "short")?;
-    play_file(&rt, "empty")
+    for name in ["full", "over", "short", "empty"] {
+        play_file(&rt, name)?;
+    }
+    Ok(())
 }

@@ -3,50 +3,44 @@
 use mathlib.Core.Path.{◌≡◌, sym, ap, subst}
 use mathlib.Core.Logic.{◌≢◌, ⊎_elim}
 use mathlib.Core.List.Memᴰ
-use mathlib.Core.List.{List, ◌∷◌, Memᴰ}
-use Prim.Native.Nat.{ℕ, ◌+◌, ◌-◌, ◌≤◌, ◌<◌, zero-le}
+use mathlib.Core.List.{List, [], ◌∷◌, Memᴰ}
+use Prim.Native.Nat.{ℕ, suc, ◌-◌, ◌≤◌, ◌<◌, zero-le}
 use native.Mathlib.Omega.{arith}
 use lib.ListN.{length, get_or}
 use Rattle.head.specs.Walks.{walk}
 use Rattle.head.proofs.Walking.{walk_length}
 use Rattle.model.proofs.Members.{distinct_more}
 use Rattle.table.specs.Links.{Listed}
-use Rattle.table.proofs.Members.{walk_on, walk_end}
 use Rattle.test_table.specs.Tests.{Proper}
 
-walk_start : (next : List ℕ) (at k : ℕ) → walk next at k ≡ walk next at (k - 0)
-walk_start next at k = let z : k ≡ k - 0 = omega arith in ap (walk next at) z
+walk_step : (next : List ℕ) (at k : ℕ) → 0 < k → walk next at k ≡ at ∷ walk next (get_or next at 0) (k - 1)
+unfolding walk
+walk_step next at k h = let z : k ≡ suc (k - 1) = omega arith in ap (walk next at) z
 
--- y is the slot that is left behind
-walk_behind : (next : List ℕ) (at k i : ℕ) {y : ℕ} → i < k → y ≡ at → walk next at (k - i) ≡ at ∷ walk next (get_or next y 0) (k - (i + 1))
-walk_behind next at k i h q = rw q (walk_on next at k i h)
+walk_none : (next : List ℕ) (at k : ℕ) → k ≤ 0 → walk next at k ≡ []
+unfolding walk
+walk_none next at k h = let z : k ≡ 0 = omega arith in ap (walk next at) z
 
 -- ---- a slot that is on the links is still ahead
 
-pub ahead_start : (next : List ℕ) (at k s : ℕ) → Memᴰ s (walk next at k) → Memᴰ s (walk next at (k - 0))
-ahead_start next at k s = subst (Memᴰ s) (walk_start next at k)
+pub ahead_on : (next : List ℕ) (at k s : ℕ) → 0 < k → at ≢ s → Memᴰ s (walk next at k) → Memᴰ s (walk next (get_or next at 0) (k - 1))
+ahead_on next at k s h n m = ⊎_elim (λ (e : s ≡ at). absurd (n (sym e))) (λ t. t) (Memᴰ.cases_cons (subst (Memᴰ s) (walk_step next at k h) m))
 
-pub ahead_on : (next : List ℕ) (at k i s : ℕ) {y : ℕ} → i < k → y ≡ at → at ≢ s → Memᴰ s (walk next at (k - i)) → Memᴰ s (walk next (get_or next y 0) (k - (i + 1)))
-ahead_on next at k i s h q n m = ⊎_elim (λ (e : s ≡ at). absurd (n (sym e))) (λ t. t) (Memᴰ.cases_cons (subst (Memᴰ s) (walk_behind next at k i h q) m))
-
-pub ahead_end : (next : List ℕ) (at k i s : ℕ) → k ≤ i → Memᴰ s (walk next at (k - i)) → ⊥
-ahead_end next at k i s h m = Memᴰ.not-nil (subst (Memᴰ s) (walk_end next at k i h) m)
+pub ahead_end : (next : List ℕ) (at k s : ℕ) → k ≤ 0 → Memᴰ s (walk next at k) → ⊥
+ahead_end next at k s h m = Memᴰ.not-nil (subst (Memᴰ s) (walk_none next at k h) m)
 
 -- ---- if what is ahead is proper, so is the whole
 
-pub proper_start : (next : List ℕ) (at k : ℕ) → Proper (walk next at (k - 0)) → Proper (walk next at k)
-proper_start next at k = subst Proper (sym (walk_start next at k))
-
-pub proper_on : (next : List ℕ) (at k i : ℕ) {y : ℕ} → i < k → y ≡ at → y < 16 → (Memᴰ at (walk next (get_or next y 0) (k - (i + 1))) → ⊥)
-    → Proper (walk next (get_or next y 0) (k - (i + 1))) → Proper (walk next at (k - i))
-proper_on next at k i {y} h q b n p =
-    subst Proper (sym (walk_behind next at k i h q)) (record {
+pub proper_on : (next : List ℕ) (at k : ℕ) → 0 < k → at < 16 → (Memᴰ at (walk next (get_or next at 0) (k - 1)) → ⊥) → Proper (walk next (get_or next at 0) (k - 1))
+    → Proper (walk next at k)
+proper_on next at k h b n p =
+    subst Proper (sym (walk_step next at k h)) (record {
       below = λ s m. ⊎_elim (λ (e : s ≡ at). omega arith) (p.below s) (Memᴰ.cases_cons m);
-      once = distinct_more at (walk next (get_or next y 0) (k - (i + 1))) n p.once;
+      once = distinct_more at (walk next (get_or next at 0) (k - 1)) n p.once;
     })
 
-pub proper_end : (next : List ℕ) (at k i : ℕ) → k ≤ i → Proper (walk next at (k - i))
-proper_end next at k i h = subst Proper (sym (walk_end next at k i h)) (record { below = λ s m. absurd (Memᴰ.not-nil m); once = λ u. zero-le })
+pub proper_end : (next : List ℕ) (at k : ℕ) → k ≤ 0 → Proper (walk next at k)
+proper_end next at k h = subst Proper (sym (walk_none next at k h)) (record { below = λ s m. absurd (Memᴰ.not-nil m); once = λ u. zero-le })
 
 -- ---- together
 

@@ -2,41 +2,29 @@
 // each act first has the proved tests say that it is.
 #![tactic(auto)]
 
-ghost use Rattle.std.specs.Prelude.{◌≡◌, true, ◌≤◌, ◌<◌, length};
+ghost use Rattle.std.specs.Prelude.{◌≡◌, true, ◌≤◌, ◌<◌, length, IfSome};
 ghost use mathlib.Core.List.{Memᴰ};
 ghost use Rattle.head.specs.Walks.{walk};
+ghost use Rattle.table.specs.Sound.{Gapped};
 ghost use Rattle.test_table.specs.Tests.{Proper, Ready};
 
 use head::{Code, Head, Slot};
 use std::io;
 use table::Search;
-use test_kit::{more, say, shaken};
+use test_kit::{Count, shaken};
 
 const N: usize = 16;
-
-// A slot as an index.
-fn wide(x: u32) -> usize
-    ensures { result ≡ x }
-{
-    x as usize
-}
 
 // Is a slot absent from the k slots that the links walk from `from` on? No, too, where a link leads out of the list.
 fn absent(next: &[u32], from: u32, k: u32, slot: u32) -> bool
     ensures { result ≡ true → Memᴰ slot (walk next.now from k) → ⊥ }
 {
     let mut at = from;
-    let mut i: u32 = 0;
-    while i < k {
-        let s = wide(at);
-        if next.len() <= s {
+    for left in (0..k).rev() {
+        if next.len() <= at as usize || at == slot {
             return false;
         }
-        if at == slot {
-            return false;
-        }
-        at = next[s];
-        i += 1;
+        at = next[at as usize];
     }
     true
 }
@@ -47,63 +35,24 @@ fn proper(next: &[u32], front: u32, live: u32) -> bool
     ensures { result ≡ true → Proper (walk next.now front live) }
 {
     let mut at = front;
-    let mut i: u32 = 0;
-    while i < live {
-        let s = wide(at);
-        if N <= s {
+    for left in (0..live).rev() {
+        if N <= at as usize || !absent(next, next[at as usize], left, at) {
             return false;
         }
-        let after = next[s];
-        i += 1;
-        if !absent(next, after, live - i, at) {
-            return false;
-        }
-        at = after;
+        at = next[at as usize];
     }
     true
 }
 
-// Are the links proper, and do the cells describe them?
-fn sound(cells: &[u32], codes: &[u64], next: &[u32], front: u32, live: u32) -> bool
-    ensures { result ≡ true → Ready cells.now codes.now next.now (walk next.now front live) }
-{
-    if cells.len() < 2 * N {
-        return false;
-    }
-    if codes.len() < N {
-        return false;
-    }
-    if next.len() < N {
-        return false;
-    }
-    if 16 < live {
-        return false;
-    }
-    if !proper(next, front, live) {
-        return false;
-    }
-    table::inspect_cells(cells, codes, next, N, Slot(front), live)
-}
+// Something differs, or the table is not sound.
+#[derive(Clone, Copy)]
+struct Wrong;
 
-// The slot on the links that has a code, or NONE: a plain scan.
-fn scan(codes: &[u64], next: &[u32], front: u32, live: u32, code: u64) -> u32 {
-    let mut at = front;
-    let mut i: u32 = 0;
-    while i < live {
-        let s = wide(at);
-        if codes.len() <= s {
-            return Head::NONE;
-        }
-        if next.len() <= s {
-            return Head::NONE;
-        }
-        if codes[s] == code {
-            return at;
-        }
-        at = next[s];
-        i += 1;
-    }
-    Head::NONE
+// What a slot is taken out by.
+#[derive(Clone, Copy)]
+enum By {
+    Cell,
+    Slot,
 }
 
 // The table, and the links that it describes.
@@ -112,394 +61,249 @@ struct Table {
     cells: [u32; 32],
     codes: [u64; 16],
     next: [u32; 16],
-    front: u32,
+    front: Slot,
     live: u32,
 }
 
-// What a search or an act came to, as a place of the counts; WRONG where something differs or the table is not sound.
-const FOUND: u64 = 0;
-
-const ABSENT: u64 = 1;
-
-const INSERTED: u64 = 2;
-
-const REMOVED: u64 = 3;
-
-const CLEARED: u64 = 4;
-
-const REBUILT: u64 = 5;
-
-const WRONG: u64 = 6;
-
-const NOTHING: u64 = 7;
-
-// What a search came to, where it found what the scan finds and read at most live + 1 cells.
-fn agree(got: u32, want: u32, count: usize, live: u32, what: u64) -> u64 {
-    if got != want {
-        return WRONG;
-    }
-    if count == 0 {
-        return WRONG;
-    }
-    if wide(live) < count - 1 {
-        return WRONG;
-    }
-    what
-}
-
-// A search, held to the scan and to live + 1 cells.
-fn search(cells: &[u32], codes: &[u64], next: &[u32], front: u32, live: u32, code: u64) -> u64 {
-    if !sound(cells, codes, next, front, live) {
-        return WRONG;
-    }
-    let want = scan(codes, next, front, live, code);
-    match table::look(cells, codes, N, Code(code)) {
-        Search::Found {
-            slot,
-            cell: _,
-            count,
-        } => agree(slot.0, want, count, live, FOUND),
-        Search::Empty { cell: _, count } => agree(Head::NONE, want, count, live, ABSENT),
-    }
-}
-
-// The same of a table by value.
-fn searched(t: Table, code: u64) -> u64 {
-    let cells = t.cells;
-    let codes = t.codes;
-    let next = t.next;
-    search(&cells, &codes, &next, t.front, t.live, code)
-}
-
-// ---- the acts: each on a table that is tested first
-
-// What an act came to, and the table that it left.
-#[derive(Clone, Copy)]
-struct Done {
-    table: Table,
-    what: u64,
-}
-
-// Nothing was changed.
-fn unchanged(t: Table, what: u64) -> Done {
-    Done { table: t, what }
-}
-
-// Puts a slot in the table.
-fn put(
-    cells: &mut [u32; 32],
-    codes: &[u64; 16],
-    next: &[u32; 16],
-    front: u32,
-    live: u32,
-    slot: u32,
-) -> bool {
-    if !sound(cells, codes, next, front, live) {
-        return false;
-    }
-    let s = wide(slot);
-    if 16 <= s {
-        return false;
-    }
-    table::insert(cells, codes, N, Slot(slot));
-    true
-}
-
-// The first slot that is not on the links, or 16.
-fn free_slot(next: &[u32; 16], front: u32, live: u32) -> usize {
-    let mut s: usize = 0;
-    while s < N {
-        if absent(next, front, live, s as u32) {
-            return s;
+impl Table {
+    // No slot is on the links.
+    fn new() -> Table {
+        Table {
+            cells: [Head::NONE; 32],
+            codes: [0; 16],
+            next: [0; 16],
+            front: Slot(Head::NONE),
+            live: 0,
         }
-        s += 1;
     }
-    N
-}
 
-// A slot with this code comes in front of the links.
-fn insert_one(t: Table, code: u64) -> Done {
-    let front = t.front;
-    let live = t.live;
-    let mut cells = t.cells;
-    let mut codes = t.codes;
-    let mut next = t.next;
-    if N <= wide(live) {
-        return unchanged(t, NOTHING);
+    // Are the links proper, and do the cells describe them?
+    fn is_sound(&self) -> bool
+        ensures ready { result ≡ true → Ready self.now.cells self.now.codes self.now.next (walk self.now.next self.now.front.0 self.now.live) }
+        ensures gapped { result ≡ true → Gapped 32 self.now.cells self.now.codes }
+    {
+        if 16 < self.live || !proper(&self.next, self.front.0, self.live) {
+            return false;
+        }
+        table::inspect_cells(
+            &self.cells,
+            &self.codes,
+            &self.next,
+            N,
+            self.front,
+            self.live,
+        )
     }
-    let s = free_slot(&next, front, live);
-    if N <= s {
-        return unchanged(t, WRONG);
-    }
-    let slot = s as u32;
-    codes[s] = code;
-    if !put(&mut cells, &codes, &next, front, live, slot) {
-        return unchanged(t, WRONG);
-    }
-    next[s] = front;
-    let table = Table {
-        cells,
-        codes,
-        next,
-        front: slot,
-        live: live + 1,
-    };
-    Done {
-        table,
-        what: INSERTED,
-    }
-}
 
-// Takes the slot that has a code out of the table, by its cell or by its number, and answers it.
-fn take(
-    cells: &mut [u32; 32],
-    codes: &[u64; 16],
-    next: &[u32; 16],
-    front: u32,
-    live: u32,
-    code: u64,
-    by_cell: bool,
-) -> u32 {
-    if !sound(cells, codes, next, front, live) {
-        return Head::NONE;
-    }
-    let Search::Found {
-        slot,
-        cell,
-        count: _,
-    } = table::look(cells, codes, N, Code(code))
-    else {
-        return Head::NONE;
-    };
-    if by_cell {
-        table::remove(cells, codes, N, cell);
-        slot.0
-    } else {
-        table::remove_slot(cells, codes, N, slot);
-        slot.0
-    }
-}
-
-// The slot behind a slot, none past the end.
-fn link_of(next: &[u32; 16], slot: u32) -> u32 {
-    let s = wide(slot);
-    if s < 16 { next[s] } else { Head::NONE }
-}
-
-// The links without a slot behind the front, to which another follows.
-fn unlinked(next: [u32; 16], front: u32, live: u32, slot: u32, to: u32) -> [u32; 16] {
-    let mut out = next;
-    let mut at = front;
-    let mut i: u32 = 0;
-    while i < live {
-        let s = wide(at);
-        let after = link_of(&next, at);
-        if after == slot {
-            if s < 16 {
-                out[s] = to;
+    // The slot on the links that has a code: a plain scan.
+    fn scan(&self, code: Code) -> Option<Slot> {
+        let mut at = self.front.0;
+        for _ in 0..self.live {
+            let i = at as usize;
+            if *self.codes.get(i)? == code.0 {
+                return Some(Slot(at));
             }
-            return out;
+            at = *self.next.get(i)?;
         }
-        at = after;
-        i += 1;
+        None
     }
-    out
-}
 
-// The slot that has a code leaves the links.
-fn remove_one(t: Table, code: u64, by_cell: bool) -> Done {
-    let front = t.front;
-    let live = t.live;
-    let mut cells = t.cells;
-    let codes = t.codes;
-    let next = t.next;
-    let slot = take(&mut cells, &codes, &next, front, live, code, by_cell);
-    if slot == Head::NONE {
-        return unchanged(t, WRONG);
-    }
-    if live == 0 {
-        return unchanged(t, WRONG);
-    }
-    let to = link_of(&next, slot);
-    let links = unlinked(next, front, live, slot, to);
-    let table = Table {
-        cells,
-        codes,
-        next: links,
-        front: if front == slot { to } else { front },
-        live: live - 1,
-    };
-    Done {
-        table,
-        what: REMOVED,
-    }
-}
-
-// Makes the cells empty.
-fn wipe(cells: &mut [u32; 32]) {
-    table::clear(cells, N);
-}
-
-// No slot is on the links any more.
-fn clear_all(t: Table) -> Done {
-    let mut cells = t.cells;
-    wipe(&mut cells);
-    let mut n = t;
-    n.cells = cells;
-    n.front = Head::NONE;
-    n.live = 0;
-    Done {
-        table: n,
-        what: CLEARED,
-    }
-}
-
-// Makes the cells anew from the links.
-fn renew(
-    cells: &mut [u32; 32],
-    codes: &[u64; 16],
-    next: &[u32; 16],
-    front: u32,
-    live: u32,
-) -> bool {
-    if !sound(cells, codes, next, front, live) {
-        return false;
-    }
-    table::rebuild(cells, codes, next, N, Slot(front), live);
-    true
-}
-
-// The same of a table by value.
-fn renew_all(t: Table) -> Done {
-    let mut cells = t.cells;
-    let codes = t.codes;
-    let next = t.next;
-    if !renew(&mut cells, &codes, &next, t.front, t.live) {
-        return unchanged(t, WRONG);
-    }
-    let mut n = t;
-    n.cells = cells;
-    Done {
-        table: n,
-        what: REBUILT,
-    }
-}
-
-// What follows a search, by a draw below 128.
-fn act(t: Table, said: u64, code: u64, draw: u64) -> Done {
-    if said == WRONG {
-        return unchanged(t, NOTHING);
-    }
-    if said == FOUND {
-        if draw < 40 {
-            return remove_one(t, code, draw < 20);
+    // Whether a search finds a code, held to the scan and to live + 1 cells.
+    fn search(&self, code: Code) -> Result<bool, Wrong> {
+        if !self.is_sound() {
+            return Err(Wrong);
         }
-    } else {
-        if draw < 80 {
-            return insert_one(t, code);
+        let (slot, count) = match table::look(&self.cells, &self.codes, N, code) {
+            Search::Found { slot, count, .. } => (Some(slot), count),
+            Search::Empty { count, .. } => (None, count),
+        };
+        if slot != self.scan(code) || count == 0 || self.live as usize + 1 < count {
+            return Err(Wrong);
         }
+        Ok(slot.is_some())
     }
-    if draw < 112 {
-        return unchanged(t, NOTHING);
+
+    // The first slot that is not on the links.
+    fn free_slot(&self) -> Option<Slot>
+        ensures { IfSome result (λ slot. slot.0 < 16) }
+    {
+        (0..16)
+            .find(|slot| absent(&self.next, self.front.0, self.live, *slot))
+            .map(Slot)
     }
-    if draw == 127 {
-        return clear_all(t);
+
+    // A slot with this code comes in front of the links. No, where every slot is on them.
+    fn insert(&mut self, code: Code) -> Result<bool, Wrong> {
+        if 16 <= self.live {
+            return Ok(false);
+        }
+        let slot = self.free_slot().ok_or(Wrong)?;
+        let i = slot.0 as usize;
+        self.codes[i] = code.0;
+        if !self.is_sound() {
+            return Err(Wrong);
+        }
+        table::insert(&mut self.cells, &self.codes, N, slot);
+        self.next[i] = self.front.0;
+        self.front = slot;
+        self.live += 1;
+        Ok(true)
     }
-    renew_all(t)
+
+    // Takes the slot that has a code out of the cells.
+    fn take(&mut self, code: Code, by: By) -> Result<Slot, Wrong> {
+        if !self.is_sound() {
+            return Err(Wrong);
+        }
+        let Search::Found { slot, cell, .. } = table::look(&self.cells, &self.codes, N, code) else {
+            return Err(Wrong);
+        };
+        match by {
+            By::Cell => table::remove(&mut self.cells, &self.codes, N, cell),
+            By::Slot => table::remove_slot(&mut self.cells, &self.codes, N, slot),
+        }
+        Ok(slot)
+    }
+
+    // The slot behind a slot, none past the end.
+    fn after(&self, slot: Slot) -> Slot {
+        Slot(*self.next.get(slot.0 as usize).unwrap_or(&Head::NONE))
+    }
+
+    // The slot that has a code leaves the table and the links: what led to it leads to the one behind it.
+    fn remove(&mut self, code: Code, by: By) -> Result<(), Wrong> {
+        let slot = self.take(code, by)?;
+        let after = self.after(slot);
+        if self.front == slot {
+            self.front = after;
+        }
+        for link in &mut self.next {
+            if *link == slot.0 {
+                *link = after.0;
+            }
+        }
+        self.live = self.live.checked_sub(1).ok_or(Wrong)?;
+        Ok(())
+    }
+
+    // No slot is on the links any more.
+    fn clear(&mut self) {
+        table::clear(&mut self.cells, N);
+        self.front = Slot(Head::NONE);
+        self.live = 0;
+    }
+
+    // Makes the cells anew from the links.
+    fn rebuild(&mut self) -> Result<(), Wrong> {
+        if !self.is_sound() {
+            return Err(Wrong);
+        }
+        table::rebuild(
+            &mut self.cells,
+            &self.codes,
+            &self.next,
+            N,
+            self.front,
+            self.live,
+        );
+        Ok(())
+    }
 }
 
-// ---- the rounds
+// What the searches and the acts came to.
+#[derive(Clone, Copy, Default)]
+struct Counts {
+    found: Count,
+    absent: Count,
+    inserted: Count,
+    removed: Count,
+    cleared: Count,
+    rebuilt: Count,
+    wrong: Count,
+}
 
 // What is carried from round to round.
 #[derive(Clone, Copy)]
 struct Run {
     table: Table,
     seed: u64,
-    counts: [u64; 8],
+    counts: Counts,
 }
 
-// Counts one more.
-fn counted(counts: [u64; 8], what: u64) -> [u64; 8] {
-    let mut out = counts;
-    let i = what as usize;
-    if i < 8 {
-        out[i] = more(out[i]);
+impl Run {
+    // A fresh table.
+    fn new() -> Run {
+        Run {
+            table: Table::new(),
+            seed: 88172645463325252,
+            counts: Counts::default(),
+        }
     }
-    out
-}
 
-// A search for a random code, and then perhaps an act.
-fn round(r: Run) -> Run {
-    let t = r.table;
-    let counts = r.counts;
-    let seed = shaken(r.seed);
-    let code = (seed >> 8) % 24;
-    let said = searched(t, code);
-    let d = act(t, said, code, (seed >> 20) % 128);
-    let table = d.table;
-    let first = counted(counts, said);
-    let both = counted(first, d.what);
-    Run {
-        table,
-        seed,
-        counts: both,
+    // A search for a code, and what follows it by a draw below 128.
+    fn act(&mut self, code: Code, draw: u64) -> Result<(), Wrong> {
+        let found = self.table.search(code)?;
+        if found {
+            self.counts.found.more();
+        } else {
+            self.counts.absent.more();
+        }
+        match draw {
+            0..=39 if found => {
+                let by = if draw < 20 { By::Cell } else { By::Slot };
+                self.table.remove(code, by)?;
+                self.counts.removed.more();
+            }
+            0..=79 if !found => {
+                if self.table.insert(code)? {
+                    self.counts.inserted.more();
+                }
+            }
+            0..=111 => {}
+            127 => {
+                self.table.clear();
+                self.counts.cleared.more();
+            }
+            _ => {
+                self.table.rebuild()?;
+                self.counts.rebuilt.more();
+            }
+        }
+        Ok(())
+    }
+
+    // A random code, and a random act.
+    fn round(&mut self) {
+        self.seed = shaken(self.seed);
+        let code = Code((self.seed >> 8) % 24);
+        if self.act(code, (self.seed >> 20) % 128).is_err() {
+            self.counts.wrong.more();
+        }
     }
 }
 
-// The state after k rounds on a fresh table.
-fn rounds(k: usize) -> Run {
-    let t = Table {
-        cells: [Head::NONE; 32],
-        codes: [0u64; 16],
-        next: [0u32; 16],
-        front: Head::NONE,
-        live: 0,
-    };
-    let mut r = Run {
-        table: t,
-        seed: 88172645463325252,
-        counts: [0u64; 8],
-    };
-    let mut i: usize = 0;
-    while i < k {
-        r = round(r);
-        i += 1;
+// So many rounds on a fresh table, and how they went.
+pub fn drive(rt: &impl Print, rounds: usize) -> io::Result<()> {
+    let mut run = Run::new();
+    for _ in 0..rounds {
+        run.round();
     }
-    r
-}
-
-// How many searches there were.
-fn tell_searches(rt: &impl Print, counts: [u64; 8]) -> io::Result<()> {
-    say(
-        rt,
-        b"found where the scan finds, count within live + 1",
-        counts[0],
+    let counts = run.counts;
+    println!(rt; "rounds {rounds}")?;
+    println!(rt;
+        "found where the scan finds, count within live + 1 {}",
+        counts.found
     )?;
-    say(
-        rt,
-        b"absent where the scan finds nothing, count within live + 1",
-        counts[1],
-    )
-}
-
-// How many acts there were.
-fn tell_acts(rt: &impl Print, counts: [u64; 8]) -> io::Result<()> {
-    say(rt, b"inserted", counts[2])?;
-    say(rt, b"removed", counts[3])?;
-    say(rt, b"cleared", counts[4])?;
-    say(rt, b"rebuilt", counts[5])
-}
-
-// Runs k rounds, and writes how they went.
-pub fn drive(rt: &impl Print, k: usize) -> io::Result<()> {
-    let r = rounds(k);
-    let counts = r.counts;
-    let table = r.table;
-    say(rt, b"rounds", k as u64)?;
-    tell_searches(rt, counts)?;
-    tell_acts(rt, counts)?;
-    say(rt, b"left with links", table.live as u64)?;
-    say(rt, b"unsound or different", counts[6])
+    println!(rt;
+        "absent where the scan finds nothing, count within live + 1 {}",
+        counts.absent
+    )?;
+    println!(rt; "inserted {}", counts.inserted)?;
+    println!(rt; "removed {}", counts.removed)?;
+    println!(rt; "cleared {}", counts.cleared)?;
+    println!(rt; "rebuilt {}", counts.rebuilt)?;
+    println!(rt; "left with links {}", run.table.live)?;
+    println!(rt; "unsound or different {}", counts.wrong)
 }
 
 // The long run: 20,000 rounds.

@@ -2,8 +2,8 @@
 use Rattle.test_table.proofs.Walks.{proper_on, proper_end}
 use Rattle.test_table.proofs.proper.Goals as goal
 
-pub loop-i-preserved : goal.loop-i-preserved
-loop-i-preserved c = λ p. c.loop-i.invariant (proper_on _ _ _ _ c.loop-i-test.true c.wide-s.ensures c.if-s-ge-N.false (c.absent.ensures c.if-not-absent.false) p)
+pub loop-left-preserved : goal.loop-left-preserved
+loop-left-preserved c = λ p. c.loop-left.invariant (proper_on _ _ _ c.loop-left-test.true c.if-at-ge-N.false (c.absent.ensures c.if-not-absent.false) p)
 
 pub returns : goal.returns
-returns c = λ e. c.loop-i.invariant (proper_end _ _ _ _ c.loop-i-test.false)
+returns c = λ e. c.loop-left.invariant (proper_end _ _ _ c.loop-left-test.false)
