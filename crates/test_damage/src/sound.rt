@@ -2,6 +2,11 @@
 use crate::state::{List, MOST_CAPACITY, MOST_SLOTS, NONE, PLACES, State, UNUSED, at, first};
 use head::Code;
 
+// What a list holds for a slot, 0 past its end.
+fn of<T: Copy + Default>(list: &[T], slot: u32) -> T {
+    at(list, slot as usize)
+}
+
 // How often a number stands in a list.
 fn times(list: &[u32], x: u32) -> usize {
     list.iter().filter(|y| **y == x).count()
@@ -37,12 +42,12 @@ impl State {
     }
 
     // The slots that so many steps from the front on meet, as many as a list has places.
-    fn order(&self) -> [u32; 16] {
-        let mut order = [NONE; 16];
+    fn order(&self) -> [u32; PLACES] {
+        let mut order = [NONE; PLACES];
         let mut slot = self.head.front.0;
         for met in &mut order {
             *met = slot;
-            slot = at(&self.next, slot as usize);
+            slot = of(&self.next, slot);
         }
         order
     }
@@ -89,13 +94,13 @@ impl Links<'_> {
         let mut slot = head.front.0;
         for met in self.order {
             if head.top.0 <= *met
-                || at(&self.state.prev, *met as usize) != last
+                || of(&self.state.prev, *met) != last
                 || times(self.order, *met) != 1
             {
                 return false;
             }
             last = *met;
-            slot = at(&self.state.next, *met as usize);
+            slot = of(&self.state.next, *met);
         }
         slot == NONE && last == head.back.0
     }
@@ -117,15 +122,15 @@ impl Links<'_> {
         match (times(self.order, slot), times(self.waiting, slot)) {
             (1, 0) => used && self.entry_ok(slot),
             (0, 1) => used && self.blank_ok(slot) && self.knows_place(slot),
-            (0, 0) => !used && self.blank_ok(slot) && at(&self.state.prev, slot as usize) == NONE,
+            (0, 0) => !used && self.blank_ok(slot) && of(&self.state.prev, slot) == NONE,
             _ => false,
         }
     }
 
     // A slot in the order: no weight if plain, its code there once, and one cell that a search from home comes to.
     fn entry_ok(&self, slot: u32) -> bool {
-        let code = at(&self.state.codes, slot as usize);
-        (self.state.head.kind == 1 || at(&self.state.weights, slot as usize) == 0)
+        let code = of(&self.state.codes, slot);
+        (self.state.head.kind == 1 || of(&self.state.weights, slot) == 0)
             && self.coded(code) == 1
             && times(self.cells, slot) == 1
             && self.reached(code, slot)
@@ -136,7 +141,7 @@ impl Links<'_> {
         let codes = &self.state.codes;
         self.order
             .iter()
-            .filter(|slot| at(codes, **slot as usize) == code)
+            .filter(|slot| of(codes, **slot) == code)
             .count()
     }
 
@@ -150,7 +155,7 @@ impl Links<'_> {
             .any(|cell| cell == slot)
     }
 
-    // The home cell of a code.
+    // The home cell of a code. In its bounds a state has 1 to 16 slots.
     fn home(&self, code: u64) -> usize {
         let n = self.state.head.slots as usize;
         if n == 0 || PLACES < n {
@@ -161,18 +166,17 @@ impl Links<'_> {
 
     // A slot not in the order holds zeros and the mark.
     fn blank_ok(&self, slot: u32) -> bool {
-        let s = self.state;
-        let i = slot as usize;
-        at(&s.codes, i) == 0
-            && at(&s.stamps, i) == 0
-            && at(&s.values, i) == 0
-            && at(&s.weights, i) == 0
-            && at(&s.next, i) == UNUSED
+        let state = self.state;
+        of(&state.codes, slot) == 0
+            && of(&state.stamps, slot) == 0
+            && of(&state.values, slot) == 0
+            && of(&state.weights, slot) == 0
+            && of(&state.next, slot) == UNUSED
     }
 
     // A slot on the stack knows its place there.
     fn knows_place(&self, slot: u32) -> bool {
-        let place = at(&self.state.prev, slot as usize);
+        let place = of(&self.state.prev, slot);
         matches!(self.waiting.get(place as usize), Some(x) if *x == slot)
     }
 
@@ -187,7 +191,7 @@ impl Links<'_> {
     fn weight(&self) -> u64 {
         let weights = &self.state.weights;
         self.order.iter().fold(0, |sum: u64, slot| {
-            sum.saturating_add(at(weights, *slot as usize))
+            sum.saturating_add(of(weights, *slot))
         })
     }
 }

@@ -1,10 +1,10 @@
-// A state: a head with its eight lists, and its numbers by their places on a sheet.
+// A state: a head with its eight lists. A damage names a number by its place on one sheet: the head's nine first, then list by list.
 use crate::samples::Sample;
 use head::{Head, Place, Slot};
 use std::array;
 use test_kit::narrow;
 
-// The paper's marks and bounds, written once more so that the plain check stands on the paper alone.
+// The paper's marks and bounds. `Head` names them too; the plain check stands on the paper alone.
 pub const NONE: u32 = 4294967295;
 
 pub const UNUSED: u32 = 4294967294;
@@ -52,14 +52,14 @@ impl List {
 #[derive(Clone, Copy)]
 pub struct State {
     pub head: Head,
-    pub codes: [u64; 16],
-    pub stamps: [u32; 16],
-    pub values: [u64; 16],
-    pub weights: [u64; 16],
-    pub next: [u32; 16],
-    pub prev: [u32; 16],
-    pub stack: [u32; 16],
-    pub cells: [u32; 32],
+    pub codes: [u64; PLACES],
+    pub stamps: [u32; PLACES],
+    pub values: [u64; PLACES],
+    pub weights: [u64; PLACES],
+    pub next: [u32; PLACES],
+    pub prev: [u32; PLACES],
+    pub stack: [u32; PLACES],
+    pub cells: [u32; 2 * PLACES],
     // The one list that is not lent whole, and how many of its places are.
     pub cut: Option<(List, usize)>,
 }
@@ -79,7 +79,6 @@ enum Spot {
 }
 
 impl Spot {
-    // The head's nine numbers come first, then the lists one behind the other.
     fn of(place: usize) -> Spot {
         if place < 9 {
             return Spot::Head(place);
@@ -131,8 +130,8 @@ pub fn at<T: Copy + Default>(list: &[T], i: usize) -> T {
 
 // Stores at a place, nothing past the end.
 fn put<T: Copy>(list: &mut [T], i: usize, v: T) {
-    if i < list.len() {
-        list[i] = v;
+    if let Some(number) = list.get_mut(i) {
+        *number = v;
     }
 }
 
@@ -148,7 +147,7 @@ fn laid<T: Copy, const N: usize>(numbers: &[T], tail: T) -> [T; N] {
 
 impl State {
     // How many numbers are on the sheet.
-    pub const NUMBERS: usize = 153;
+    pub const NUMBERS: usize = 9 + 9 * PLACES;
 
     // A sample, with one kind of tail.
     pub fn of(sample: &Sample, tail: Tail) -> State {
