@@ -2,7 +2,6 @@
 use crate::samples::Sample;
 use head::{Head, Place, Slot};
 use std::array;
-use test_kit::narrow;
 
 // The paper's marks and bounds. `Head` names them too; the plain check stands on the paper alone.
 pub const NONE: u32 = 4294967295;
@@ -92,6 +91,11 @@ impl Spot {
     }
 }
 
+// The low 32 bits.
+fn low(v: u64) -> u32 {
+    (v % 4294967296) as u32
+}
+
 // A head's numbers, in the order of its fields.
 fn numbers(head: Head) -> [u64; 9] {
     [
@@ -111,15 +115,15 @@ fn numbers(head: Head) -> [u64; 9] {
 fn head_of(numbers: [u64; 9]) -> Head {
     let [kind, capacity, slots, live, weight, front, back, top, depth] = numbers;
     Head {
-        kind: narrow(kind),
+        kind: low(kind),
         capacity,
-        slots: narrow(slots),
-        live: narrow(live),
+        slots: low(slots),
+        live: low(live),
         weight,
-        front: Slot(narrow(front)),
-        back: Slot(narrow(back)),
-        top: Slot(narrow(top)),
-        depth: Place(narrow(depth)),
+        front: Slot(low(front)),
+        back: Slot(low(back)),
+        top: Slot(low(top)),
+        depth: Place(low(depth)),
     }
 }
 
@@ -196,13 +200,13 @@ impl State {
                 self.head = head_of(all);
             }
             Spot::In(List::Codes, i) => put(&mut self.codes, i, v),
-            Spot::In(List::Stamps, i) => put(&mut self.stamps, i, narrow(v)),
+            Spot::In(List::Stamps, i) => put(&mut self.stamps, i, low(v)),
             Spot::In(List::Values, i) => put(&mut self.values, i, v),
             Spot::In(List::Weights, i) => put(&mut self.weights, i, v),
-            Spot::In(List::Next, i) => put(&mut self.next, i, narrow(v)),
-            Spot::In(List::Prev, i) => put(&mut self.prev, i, narrow(v)),
-            Spot::In(List::Stack, i) => put(&mut self.stack, i, narrow(v)),
-            Spot::In(List::Cells, i) => put(&mut self.cells, i, narrow(v)),
+            Spot::In(List::Next, i) => put(&mut self.next, i, low(v)),
+            Spot::In(List::Prev, i) => put(&mut self.prev, i, low(v)),
+            Spot::In(List::Stack, i) => put(&mut self.stack, i, low(v)),
+            Spot::In(List::Cells, i) => put(&mut self.cells, i, low(v)),
         }
     }
 
