@@ -10,19 +10,19 @@ ghost use Rattle.head.specs.Refusals.{number_of};
 ghost use Rattle.head.specs.Rules.{code_rule, value_rule, stamp_rule, weight_rule, rule_of};
 
 // The number of a slot, or one of the marks NONE and UNUSED of `Head`.
-#[derive(Clone, Copy)]
+#[derive(Clone, Copy, Debug, PartialEq, Eq)]
 pub struct Slot(pub u32);
 
 // What a key is compared by.
-#[derive(Clone, Copy)]
+#[derive(Clone, Copy, Debug, PartialEq, Eq)]
 pub struct Code(pub u64);
 
 // A place in the free stack, counted from its bottom.
-#[derive(Clone, Copy)]
+#[derive(Clone, Copy, Debug, PartialEq, Eq)]
 pub struct Place(pub u32);
 
 // The numbers of a cache that stand beside its lists. A caller lends it, so any of them may be damaged, the kind too.
-#[derive(Clone, Copy)]
+#[derive(Clone, Copy, Debug, PartialEq, Eq)]
 pub struct Head {
     // PLAIN or WEIGHED.
     pub kind: u32,
@@ -106,7 +106,7 @@ impl Head {
 }
 
 // An entry, as it is stored and as it is handed out.
-#[derive(Clone, Copy)]
+#[derive(Clone, Copy, Debug, PartialEq, Eq)]
 pub struct Row {
     pub code: Code,
     pub stamp: u32,
@@ -115,7 +115,7 @@ pub struct Row {
 }
 
 // Which entries `retain` keeps. The number comes from outside, so it may name no rule.
-#[derive(Clone, Copy)]
+#[derive(Clone, Copy, Debug, PartialEq, Eq)]
 pub struct Rule {
     // CODE and VALUE: from low to high, both included. STAMP: at least low. WEIGHT: at most high. The other bound is not read.
     pub number: u32,
@@ -192,7 +192,7 @@ impl Rule {
 }
 
 // A call after opening, with its numbers.
-#[derive(Clone, Copy)]
+#[derive(Clone, Copy, Debug, PartialEq, Eq)]
 pub enum Command {
     Len,
     Capacity,
@@ -249,7 +249,7 @@ pub enum Command {
 }
 
 // Which of four promises a call has, by what it does with what it is lent.
-#[derive(Clone, Copy)]
+#[derive(Clone, Copy, Debug, PartialEq, Eq)]
 pub enum Form {
     // Reads, and hands out no row.
     Reading,
@@ -315,7 +315,7 @@ impl Command {
 }
 
 // Why a call was not carried out, and what helps.
-#[derive(Clone, Copy)]
+#[derive(Clone, Copy, Debug, PartialEq, Eq)]
 pub enum Refusal {
     // 1. Opening: a kind other than 0 and 1, a capacity or a slot count out of bounds, or a list too short: lend longer lists, or ask for less.
     NotOpened,
@@ -354,7 +354,7 @@ impl Refusal {
 }
 
 // What a call says. `rows` counts the rows written to the lent list.
-#[derive(Clone, Copy)]
+#[derive(Clone, Copy, Debug, PartialEq, Eq)]
 pub enum Answer {
     No(Refusal),
     // The code was absent and is now in front.

@@ -1,190 +1,122 @@
 // Runs the CRC on published and other vectors, whose values were made by another routine, and writes a line for each.
 #![tactic(auto)]
 
-use head::Code;
-use std::io;
+ghost use Rattle.std.specs.Prelude.{◌≤◌, length, IfOk};
 
-// Writes the vector's name, the value, and whether it is the expected one; one more is right if it is.
-fn line(rt: &impl Print, ok: u64, name: &[u8], value: u64, expected: u64) -> io::Result<u64> {
-    rt.write_all(name)?;
-    print!(rt; " {value:08x}")?;
-    if value == expected {
-        rt.write_all(b" ok\n")?;
-        Ok(ok.wrapping_add(1))
-    } else {
-        rt.write_all(b" differs\n")?;
-        Ok(ok)
+use head::Code;
+use std::{fmt, io};
+
+// A name, the value that was computed, and the one that is expected.
+#[derive(Clone, Copy)]
+struct Vector {
+    name: &'static str,
+    value: u64,
+    expected: u64,
+}
+
+impl Vector {
+    fn new(name: &'static str, value: u64, expected: u64) -> Vector {
+        Vector {
+            name,
+            value,
+            expected,
+        }
+    }
+
+    fn is_right(&self) -> bool {
+        self.value == self.expected
     }
 }
 
-fn texts(rt: &impl Print, right: u64) -> io::Result<u64> {
-    let mut ok = right;
-    ok = line(
-        rt,
-        ok,
-        b"check",
-        crc::of_bytes(b"123456789") as u64,
-        0xCBF43926,
-    )?;
-    ok = line(rt, ok, b"empty", crc::of_bytes(b"") as u64, 0x00000000)?;
-    ok = line(rt, ok, b"a", crc::of_bytes(b"a") as u64, 0xE8B7BE43)?;
-    ok = line(rt, ok, b"abc", crc::of_bytes(b"abc") as u64, 0x352441C2)?;
-    ok = line(
-        rt,
-        ok,
-        b"message-digest",
-        crc::of_bytes(b"message digest") as u64,
-        0x20159D7F,
-    )?;
-    ok = line(
-        rt,
-        ok,
-        b"alphabet",
-        crc::of_bytes(b"abcdefghijklmnopqrstuvwxyz") as u64,
-        0x4C2750BD,
-    )?;
-    ok = line(
-        rt,
-        ok,
-        b"fox",
-        crc::of_bytes(b"The quick brown fox jumps over the lazy dog") as u64,
-        0x414FA339,
-    )?;
-    ok = line(rt, ok, b"byte-00", crc::of_bytes(&[0u8]) as u64, 0xD202EF8D)?;
-    ok = line(rt, ok, b"byte-01", crc::of_bytes(&[1u8]) as u64, 0xA505DF1B)?;
-    ok = line(
-        rt,
-        ok,
-        b"byte-ff",
-        crc::of_bytes(&[255u8]) as u64,
-        0xFF000000,
-    )?;
-    Ok(ok)
+impl fmt::Display for Vector {
+    fn fmt<W: fmt::Write>(&self, f: &mut fmt::Formatter<W>) -> fmt::Result {
+        let word = if self.is_right() { "ok" } else { "differs" };
+        write!(f, "{} {:08x} {word}", self.name, self.value)
+    }
 }
 
-fn runs(rt: &impl Print, right: u64) -> io::Result<u64> {
-    let mut ok = right;
-    let thirty_two_00 = [0u8; 32];
-    ok = line(
-        rt,
-        ok,
-        b"thirty-two-00",
-        crc::of_bytes(&thirty_two_00) as u64,
-        0x190A55AD,
-    )?;
-    let thirty_two_ff = [255u8; 32];
-    ok = line(
-        rt,
-        ok,
-        b"thirty-two-ff",
-        crc::of_bytes(&thirty_two_ff) as u64,
-        0xFF6CAB0B,
-    )?;
+fn of_text(name: &'static str, text: &[u8], expected: u64) -> Vector {
+    Vector::new(name, u64::from(crc::of_bytes(text)), expected)
+}
+
+fn of_code(name: &'static str, code: u64, expected: u64) -> Vector {
+    Vector::new(name, u64::from(crc::crc32(Code(code))), expected)
+}
+
+fn texts() -> [Vector; 10] {
+    [
+        of_text("check", b"123456789", 0xCBF43926),
+        of_text("empty", b"", 0x00000000),
+        of_text("a", b"a", 0xE8B7BE43),
+        of_text("abc", b"abc", 0x352441C2),
+        of_text("message-digest", b"message digest", 0x20159D7F),
+        of_text("alphabet", b"abcdefghijklmnopqrstuvwxyz", 0x4C2750BD),
+        of_text(
+            "fox",
+            b"The quick brown fox jumps over the lazy dog",
+            0x414FA339,
+        ),
+        of_text("byte-00", &[0], 0xD202EF8D),
+        of_text("byte-01", &[1], 0xA505DF1B),
+        of_text("byte-ff", &[255], 0xFF000000),
+    ]
+}
+
+fn runs() -> [Vector; 4] {
     let ascending = [
-        0u8, 1, 2, 3, 4, 5, 6, 7, 8, 9, 10, 11, 12, 13, 14, 15, 16, 17, 18, 19, 20, 21, 22, 23, 24,
+        0, 1, 2, 3, 4, 5, 6, 7, 8, 9, 10, 11, 12, 13, 14, 15, 16, 17, 18, 19, 20, 21, 22, 23, 24,
         25, 26, 27, 28, 29, 30, 31,
     ];
-    ok = line(
-        rt,
-        ok,
-        b"ascending",
-        crc::of_bytes(&ascending) as u64,
-        0x91267E8A,
-    )?;
-    let descending = [
-        31u8, 30, 29, 28, 27, 26, 25, 24, 23, 22, 21, 20, 19, 18, 17, 16, 15, 14, 13, 12, 11, 10,
-        9, 8, 7, 6, 5, 4, 3, 2, 1, 0,
-    ];
-    ok = line(
-        rt,
-        ok,
-        b"descending",
-        crc::of_bytes(&descending) as u64,
-        0x9AB0EF72,
-    )?;
-    Ok(ok)
+    let mut descending = ascending;
+    descending.reverse();
+    [
+        of_text("thirty-two-00", &[0; 32], 0x190A55AD),
+        of_text("thirty-two-ff", &[255; 32], 0xFF6CAB0B),
+        of_text("ascending", &ascending, 0x91267E8A),
+        of_text("descending", &descending, 0x9AB0EF72),
+    ]
 }
 
-fn codes(rt: &impl Print, right: u64) -> io::Result<u64> {
-    let mut ok = right;
-    ok = line(rt, ok, b"code-0", crc::crc32(Code(0)) as u64, 0x6522DF69)?;
-    ok = line(rt, ok, b"code-1", crc::crc32(Code(1)) as u64, 0xA988DFF7)?;
-    ok = line(rt, ok, b"code-2", crc::crc32(Code(2)) as u64, 0x2707D814)?;
-    ok = line(
-        rt,
-        ok,
-        b"code-255",
-        crc::crc32(Code(255)) as u64,
-        0x4369D98F,
-    )?;
-    ok = line(
-        rt,
-        ok,
-        b"code-256",
-        crc::crc32(Code(256)) as u64,
-        0xC355D4DD,
-    )?;
-    ok = line(
-        rt,
-        ok,
-        b"code-12345678",
-        crc::crc32(Code(578437695752307201)) as u64,
-        0x3FCA88C5,
-    )?;
-    ok = line(
-        rt,
-        ok,
-        b"code-2^32",
-        crc::crc32(Code(4294967296)) as u64,
-        0xDD9EB80C,
-    )?;
-    ok = line(
-        rt,
-        ok,
-        b"code-2^63",
-        crc::crc32(Code(9223372036854775808)) as u64,
-        0x889A5C49,
-    )?;
-    ok = line(
-        rt,
-        ok,
-        b"code-2^64-1",
-        crc::crc32(Code(18446744073709551615)) as u64,
-        0x2144DF1C,
-    )?;
-    Ok(ok)
+fn codes() -> [Vector; 9] {
+    [
+        of_code("code-0", 0, 0x6522DF69),
+        of_code("code-1", 1, 0xA988DFF7),
+        of_code("code-2", 2, 0x2707D814),
+        of_code("code-255", 255, 0x4369D98F),
+        of_code("code-256", 256, 0xC355D4DD),
+        of_code("code-12345678", 578437695752307201, 0x3FCA88C5),
+        of_code("code-2^32", 4294967296, 0xDD9EB80C),
+        of_code("code-2^63", 9223372036854775808, 0x889A5C49),
+        of_code("code-2^64-1", u64::MAX, 0x2144DF1C),
+    ]
 }
 
-fn homes(rt: &impl Print, right: u64) -> io::Result<u64> {
-    let mut ok = right;
-    ok = line(
-        rt,
-        ok,
-        b"home-1-of-32",
-        crc::home(Code(1), 16) as u64,
-        0x00000017,
-    )?;
-    ok = line(
-        rt,
-        ok,
-        b"home-1-of-2",
-        crc::home(Code(1), 1) as u64,
-        0x00000001,
-    )?;
-    ok = line(
-        rt,
-        ok,
-        b"home-2^64-1-of-8192",
-        crc::home(Code(18446744073709551615), 4096) as u64,
-        0x00001F1C,
-    )?;
-    Ok(ok)
+fn homes() -> [Vector; 3] {
+    [
+        Vector::new("home-1-of-32", crc::home(Code(1), 16) as u64, 0x00000017),
+        Vector::new("home-1-of-2", crc::home(Code(1), 1) as u64, 0x00000001),
+        Vector::new(
+            "home-2^64-1-of-8192",
+            crc::home(Code(u64::MAX), 4096) as u64,
+            0x00001F1C,
+        ),
+    ]
+}
+
+// Writes a line for each vector, and answers how many are right.
+fn tell(rt: &impl Print, vectors: &[Vector]) -> io::Result<usize>
+    ensures { IfOk result (λ right. right ≤ length vectors.now) }
+{
+    for vector in vectors {
+        println!(rt; "{vector}")?;
+    }
+    Ok(vectors.iter().filter(|v| v.is_right()).count())
 }
 
 fn main(rt: HostRuntime) -> io::Result<()> {
-    let ok = texts(&rt, 0)?;
-    let ok = runs(&rt, ok)?;
-    let ok = codes(&rt, ok)?;
-    let ok = homes(&rt, ok)?;
-    println!(rt; "{ok} of 26 ok")
+    let right = tell(&rt, &texts())?
+        + tell(&rt, &runs())?
+        + tell(&rt, &codes())?
+        + tell(&rt, &homes())?;
+    println!(rt; "{right} of 26 ok")
 }

@@ -1,284 +1,179 @@
-// A list of at most 16 slots that is kept by plain arrays and by shifting, and the list's numbers compared with it.
-use crate::{less, more, pick, plus, wide};
-use head::Head;
+// A list of at most 16 slots that is kept plainly, by moving entries in a `Vec`, and the links that the list has to have for it.
+ghost use Rattle.std.specs.Prelude.{◌≡◌, ◌<◌, ◌≤◌, IfSome, vec_len};
 
-const NONE: u64 = 4294967295;
+use crate::links::Links;
+use head::{Head, Place, Slot};
+use std::alloc::{AllocError, Global};
+use std::array;
 
-const UNUSED: u64 = 4294967294;
-
-// The slots in use, front first, and a mark for each; the pile of free slots, of which the last is taken first; and the first slot never used.
+// A slot in use, and a mark for what it holds.
 #[derive(Clone, Copy)]
+pub struct Entry {
+    pub slot: Slot,
+    pub mark: u64,
+}
+
+// The entries, front first; the pile of free slots, of which the last is taken first; and the first slot never used.
+#[derive(Drop)]
 pub struct Order {
-    pub slots: [u64; 16],
-    pub marks: [u64; 16],
-    pub live: u64,
-    pub pile: [u64; 16],
-    pub depth: u64,
-    pub top: u64,
+    pub entries: Vec<Entry>,
+    pub pile: Vec<Slot>,
+    pub top: u32,
+    ghost few: { vec_len entries ≤ 16 },
+    ghost low: { vec_len pile ≤ 16 },
+    ghost used: { top ≤ 16 },
 }
 
-// No slot is in use.
-pub fn empty() -> Order {
-    Order {
-        slots: [0u64; 16],
-        marks: [0u64; 16],
-        live: 0,
-        pile: [0u64; 16],
-        depth: 0,
-        top: 0,
-    }
-}
-
-// A number in front; the others move one place back, and the last goes.
-fn fronted(list: [u64; 16], v: u64) -> [u64; 16] {
-    let mut out = list;
-    let mut i: usize = 15;
-    while 0 < i {
-        let k = i - 1;
-        out[i] = list[k];
-        i = k;
-    }
-    out[0] = v;
-    out
-}
-
-// Those behind a place move one place to the front.
-fn without(list: [u64; 16], place: u64) -> [u64; 16] {
-    let mut out = list;
-    let mut i = place as usize;
-    while i < 15 {
-        let k = i + 1;
-        out[i] = list[k];
-        i = k;
-    }
-    out
-}
-
-// A number stored at a place.
-fn stored(list: [u64; 16], place: u64, v: u64) -> [u64; 16] {
-    let mut out = list;
-    let i = place as usize;
-    if i < 16 {
-        out[i] = v;
-    }
-    out
-}
-
-// The numbers from this one on.
-fn counted(from: u64) -> [u64; 16] {
-    let mut out = [0u64; 16];
-    let mut i: usize = 0;
-    while i < 16 {
-        out[i] = plus(from, i as u64);
-        i += 1;
-    }
-    out
-}
-
-// A slot and its mark in front.
-fn in_front(o: Order, slot: u64, mark: u64) -> Order {
-    let mut r = o;
-    let slots = o.slots;
-    let marks = o.marks;
-    let a = fronted(slots, slot);
-    let b = fronted(marks, mark);
-    r.slots = a;
-    r.marks = b;
-    r
-}
-
-// An entry with this mark comes to the front, in the last slot of the pile, or in the first never used.
-pub fn push(o: Order, mark: u64) -> Order {
-    let m = o.depth;
-    let t = o.top;
-    if 16 <= o.live {
-        return o;
-    }
-    if m == 0 {
-        if 16 <= t {
-            return o;
+impl Order {
+    // No slot is in use.
+    pub fn new(alloc: Global) -> Order {
+        Order {
+            entries: Vec::new(alloc),
+            pile: Vec::new(alloc),
+            top: 0,
         }
-        let mut r = in_front(o, t, mark);
-        r.live = more(o.live);
-        r.top = more(t);
-        return r;
     }
-    let pile = o.pile;
-    let mut r = in_front(o, nth(&pile, less(m)), mark);
-    r.live = more(o.live);
-    r.depth = less(m);
-    r
-}
 
-// The entry at a place leaves, and its slot comes on the pile.
-pub fn remove(o: Order, place: u64) -> Order {
-    let n = o.live;
-    let m = o.depth;
-    if n <= place {
-        return o;
+    // The slot at a place, none past the end.
+    pub fn slot_at(&self, place: usize) -> Slot {
+        self.entries
+            .get(place)
+            .map_or(Slot(Head::NONE), |entry| entry.slot)
     }
-    if 16 <= m {
-        return o;
+
+    // The place of a slot, none where it is not in use.
+    fn place_of(&self, slot: Slot) -> Option<usize>
+        ensures { IfSome result (λ place. place < vec_len self.now.entries) }
+    {
+        self.entries.iter().position(|entry| entry.slot == slot)
     }
-    let slots = o.slots;
-    let marks = o.marks;
-    let pile = o.pile;
-    let a = without(slots, place);
-    let b = without(marks, place);
-    let c = stored(pile, m, nth(&slots, place));
-    let mut r = o;
-    r.slots = a;
-    r.marks = b;
-    r.pile = c;
-    r.live = less(n);
-    r.depth = more(m);
-    r
-}
 
-// The entry at a place comes to the front.
-pub fn raise(o: Order, place: u64) -> Order {
-    let slots = o.slots;
-    let marks = o.marks;
-    let a = without(slots, place);
-    let b = without(marks, place);
-    let mut r = o;
-    r.slots = a;
-    r.marks = b;
-    in_front(r, nth(&slots, place), nth(&marks, place))
-}
-
-// So many leave by the back.
-pub fn evict(o: Order, k: u64) -> Order {
-    let mut r = o;
-    let mut left = k;
-    while 0 < left {
-        r = remove(r, less(r.live));
-        left -= 1;
+    // The mark of a slot, none where it is not in use.
+    pub fn mark_of(&self, slot: Slot) -> Option<u64> {
+        let place = self.place_of(slot)?;
+        Some(self.entries[place].mark)
     }
-    r
-}
 
-// The entry at place i stands in slot i, and the slots from there to a new top are the pile, ascending.
-pub fn compact(o: Order, top: u64) -> Order {
-    let n = o.live;
-    let a = counted(0);
-    let b = counted(n);
-    let mut r = o;
-    r.slots = a;
-    r.pile = b;
-    r.depth = if n < top { top - n } else { 0 };
-    r.top = top;
-    r
-}
-
-// The number at a place, 0 past the end.
-pub fn nth(list: &[u64; 16], i: u64) -> u64 {
-    let j = i as usize;
-    if j < 16 { list[j] } else { 0 }
-}
-
-// The same of 32-bit numbers.
-pub fn nth_short(list: &[u32; 16], i: u64) -> u64 {
-    let j = i as usize;
-    if j < 16 { wide(list[j]) } else { 0 }
-}
-
-// The place of a number among the first n, n where it is not there.
-pub fn place_of(list: &[u64; 16], n: u64, x: u64) -> u64 {
-    let mut i: u64 = 0;
-    while i < n {
-        if nth(list, i) == x {
-            return i;
+    // The slot that the next entry takes: the last of the pile, or the first never used.
+    fn take_slot(&mut self) -> Option<Slot>
+        ensures { self.new.entries ≡ self.old.entries }
+    {
+        if let Some(slot) = self.pile.pop() {
+            return Some(slot);
         }
-        i += 1;
-    }
-    n
-}
-
-// The slot at a place, none where there is no such place.
-fn slot_at(slots: &[u64; 16], n: u64, i: u64) -> u64 {
-    if i < n { nth(slots, i) } else { NONE }
-}
-
-// Whether a slot's links are these.
-fn links_are(next: &[u32; 16], prev: &[u32; 16], s: u64, after: u64, ahead: u64) -> bool {
-    if nth_short(next, s) != after {
-        return false;
-    }
-    nth_short(prev, s) == ahead
-}
-
-// Whether a slot's links are those of its neighbours, or, where it is not in use, the mark and its place on the pile.
-fn links_agree(o: Order, next: &[u32; 16], prev: &[u32; 16], s: u64) -> bool {
-    let n = o.live;
-    let m = o.depth;
-    let slots = o.slots;
-    let pile = o.pile;
-    let i = place_of(&slots, n, s);
-    if n <= i {
-        let p = place_of(&pile, m, s);
-        return links_are(next, prev, s, UNUSED, pick(p < m, p, NONE));
-    }
-    links_are(
-        next,
-        prev,
-        s,
-        slot_at(&slots, n, more(i)),
-        slot_at(&slots, n, less(i)),
-    )
-}
-
-// Whether each slot's links agree.
-fn all_agree(o: Order, next: &[u32; 16], prev: &[u32; 16]) -> bool {
-    let mut s: u64 = 0;
-    while s < 16 {
-        if !links_agree(o, next, prev, s) {
-            return false;
+        if 16 <= self.top {
+            return None;
         }
-        s += 1;
+        let slot = Slot(self.top);
+        self.top += 1;
+        Some(slot)
     }
-    true
-}
 
-// Whether the stack holds the pile, and none past it.
-fn pile_agrees(pile: &[u64; 16], m: u64, stack: &[u32; 16]) -> bool {
-    let mut i: u64 = 0;
-    while i < 16 {
-        if nth_short(stack, i) != slot_at(pile, m, i) {
-            return false;
+    // An entry with this mark comes to the front.
+    pub fn push(&mut self, mark: u64) -> Result<(), AllocError> {
+        if 16 <= self.entries.len() {
+            return Ok(());
         }
-        i += 1;
+        if let Some(slot) = self.take_slot() {
+            self.entries.insert(0, Entry { slot, mark })?;
+        }
+        Ok(())
     }
-    true
-}
 
-// Whether the head counts the entries and the pile, and names both ends.
-fn head_agrees(o: Order, head: Head) -> bool {
-    let n = o.live;
-    let slots = o.slots;
-    if (head.live as u64) != n {
-        return false;
+    // The entry at a place leaves, and its slot comes on the pile.
+    pub fn remove(&mut self, place: usize) -> Result<(), AllocError> {
+        if place < self.entries.len() && self.pile.len() < 16 {
+            let entry = self.entries.remove(place);
+            self.pile.push(entry.slot)?;
+        }
+        Ok(())
     }
-    if (head.depth.0 as u64) != o.depth {
-        return false;
-    }
-    if (head.top.0 as u64) != o.top {
-        return false;
-    }
-    if (head.front.0 as u64) != slot_at(&slots, n, 0) {
-        return false;
-    }
-    (head.back.0 as u64) == slot_at(&slots, n, less(n))
-}
 
-// Whether every number of the head's counts and ends, the links and the stack is what it has to be.
-pub fn agrees(o: Order, head: Head, next: &[u32; 16], prev: &[u32; 16], stack: &[u32; 16]) -> bool {
-    if !head_agrees(o, head) {
-        return false;
+    // The entry at a place comes to the front.
+    pub fn raise(&mut self, place: usize) -> Result<(), AllocError> {
+        if place < self.entries.len() {
+            let entry = self.entries.remove(place);
+            self.entries.insert(0, entry)?;
+        }
+        Ok(())
     }
-    let pile = o.pile;
-    if !pile_agrees(&pile, o.depth, stack) {
-        return false;
+
+    // So many leave by the back.
+    pub fn evict(&mut self, count: u32) -> Result<(), AllocError> {
+        for _ in 0..count {
+            let last = self.entries.len().wrapping_sub(1);
+            self.remove(last)?;
+        }
+        Ok(())
     }
-    all_agree(o, next, prev)
+
+    // Every entry leaves, and no slot counts as used.
+    pub fn clear(&mut self) {
+        self.entries.clear();
+        self.pile.clear();
+        self.top = 0;
+    }
+
+    // The entry at place i comes to slot i, and the slots from there to the smaller of top and the capacity are the pile, ascending.
+    pub fn compact(&mut self, capacity: u64) -> Result<(), AllocError> {
+        if capacity < u64::from(self.top) {
+            self.top = capacity as u32;
+        }
+        for (i, entry) in self.entries.iter_mut().enumerate() {
+            entry.slot = Slot(i as u32);
+        }
+        self.pile.clear();
+        for slot in self.live()..self.top {
+            self.pile.push(Slot(slot))?;
+        }
+        Ok(())
+    }
+
+    // How many entries there are.
+    pub fn live(&self) -> u32
+        ensures { result ≡ vec_len self.now.entries }
+    {
+        self.entries.len() as u32
+    }
+
+    // The next link of a slot: the slot of the entry behind it, or the mark where it is not in use.
+    fn after(&self, slot: Slot) -> u32 {
+        match self.place_of(slot) {
+            Some(place) => self.slot_at(place + 1).0,
+            None => Head::UNUSED,
+        }
+    }
+
+    // The back link of a slot: the slot of the entry ahead of it, or its place on the pile where it waits there.
+    fn ahead(&self, slot: Slot) -> u32 {
+        if let Some(place) = self.place_of(slot) {
+            return self.slot_at(place.wrapping_sub(1)).0;
+        }
+        match self.pile.iter().position(|free| *free == slot) {
+            Some(place) => place as u32,
+            None => Head::NONE,
+        }
+    }
+
+    // What a place of the stack holds: the slot of the pile, none past it.
+    fn waiting(&self, place: usize) -> u32 {
+        self.pile.get(place).map_or(Head::NONE, |slot| slot.0)
+    }
+
+    // The list for this order: a head with its counts and ends, the links and the stack.
+    pub fn links(&self, head: Head) -> Links {
+        Links {
+            head: Head {
+                live: self.live(),
+                front: self.slot_at(0),
+                back: self.slot_at(self.entries.len().wrapping_sub(1)),
+                top: Slot(self.top),
+                depth: Place(self.pile.len() as u32),
+                ..head
+            },
+            next: array::from_fn(|i| self.after(Slot(i as u32))),
+            prev: array::from_fn(|i| self.ahead(Slot(i as u32))),
+            stack: array::from_fn(|i| self.waiting(i)),
+        }
+    }
 }

@@ -1,10 +1,12 @@
 // The list's links by value, each operation on links that are inspected first. Where they are not sound, or it does not fit, nothing is done.
-use crate::line::Order;
-use crate::{line, narrow};
+ghost use Rattle.std.specs.Prelude.{◌≡◌, true};
+ghost use Rattle.list.specs.Inspect.{Inspected};
+ghost use Rattle.list.specs.Promises.{Held, Room};
+
 use head::{Head, Slot};
 
 // The list: its head and its links.
-#[derive(Clone, Copy)]
+#[derive(Clone, Copy, Debug, PartialEq, Eq)]
 pub struct Links {
     pub head: Head,
     pub next: [u32; 16],
@@ -12,133 +14,84 @@ pub struct Links {
     pub stack: [u32; 16],
 }
 
-// The links of a head that holds nothing.
-pub fn bare(head: Head) -> Links {
-    Links {
-        head,
-        next: [Head::UNUSED; 16],
-        prev: [Head::NONE; 16],
-        stack: [Head::NONE; 16],
+impl Links {
+    // The links of a head that holds nothing.
+    pub fn bare(head: Head) -> Links {
+        Links {
+            head,
+            next: [Head::UNUSED; 16],
+            prev: [Head::NONE; 16],
+            stack: [Head::NONE; 16],
+        }
     }
-}
 
-// A slot comes to the front.
-pub fn push(l: Links) -> Links {
-    let head = l.head;
-    let mut next = l.next;
-    let mut prev = l.prev;
-    let mut stack = l.stack;
-    if !list::inspect_links(head, &next, &prev, &stack) {
-        return l;
+    fn is_sound(&self) -> bool
+        ensures { Inspected self.now.head self.now.next self.now.prev self.now.stack result }
+    {
+        list::inspect_links(self.head, &self.next, &self.prev, &self.stack)
     }
-    if head.slots <= head.live {
-        return l;
-    }
-    let t = list::push_front(head, &mut next, &mut prev, &mut stack);
-    let h = t.head;
-    Links {
-        head: h,
-        next,
-        prev,
-        stack,
-    }
-}
 
-// A slot leaves, and comes on the stack.
-pub fn remove(l: Links, slot: u64) -> Links {
-    let head = l.head;
-    let mut next = l.next;
-    let mut prev = l.prev;
-    let mut stack = l.stack;
-    let s = narrow(slot);
-    if !list::inspect_links(head, &next, &prev, &stack) {
-        return l;
+    // Whether they are sound and a slot is in use.
+    fn holds(&self, slot: Slot) -> bool
+        ensures held { result ≡ true → Held self.now.head self.now.next self.now.prev self.now.stack slot.0 }
+        ensures room { result ≡ true → Room self.now.head self.now.next self.now.prev slot.0 }
+    {
+        if !self.is_sound() || self.head.slots <= slot.0 {
+            return false;
+        }
+        list::at(&self.next, slot.0) != Head::UNUSED
     }
-    if head.slots <= s {
-        return l;
-    }
-    if list::at(&next, s) == Head::UNUSED {
-        return l;
-    }
-    let h = list::remove(head, &mut next, &mut prev, &mut stack, Slot(s));
-    Links {
-        head: h,
-        next,
-        prev,
-        stack,
-    }
-}
 
-// A slot of the list comes to the front.
-pub fn raise(l: Links, slot: u64) -> Links {
-    let head = l.head;
-    let mut next = l.next;
-    let mut prev = l.prev;
-    let stack = l.stack;
-    let s = narrow(slot);
-    if !list::inspect_links(head, &next, &prev, &stack) {
-        return l;
+    // A slot comes to the front.
+    pub fn push(&mut self) {
+        if self.is_sound() && self.head.live < self.head.slots {
+            let taken = list::push_front(
+                self.head,
+                &mut self.next,
+                &mut self.prev,
+                &mut self.stack,
+            );
+            self.head = taken.head;
+        }
     }
-    if head.slots <= s {
-        return l;
-    }
-    if list::at(&next, s) == Head::UNUSED {
-        return l;
-    }
-    let h = list::move_front(head, &mut next, &mut prev, Slot(s));
-    Links {
-        head: h,
-        next,
-        prev,
-        stack,
-    }
-}
 
-// So many slots leave by the back.
-pub fn evict(l: Links, leave: u64) -> Links {
-    let head = l.head;
-    let mut next = l.next;
-    let mut prev = l.prev;
-    let mut stack = l.stack;
-    let k = narrow(leave);
-    if !list::inspect_links(head, &next, &prev, &stack) {
-        return l;
+    // A slot leaves, and comes on the stack.
+    pub fn remove(&mut self, slot: Slot) {
+        if self.holds(slot) {
+            self.head = list::remove(
+                self.head,
+                &mut self.next,
+                &mut self.prev,
+                &mut self.stack,
+                slot,
+            );
+        }
     }
-    if head.live < k {
-        return l;
-    }
-    let h = list::evict(head, &mut next, &mut prev, &mut stack, k);
-    Links {
-        head: h,
-        next,
-        prev,
-        stack,
-    }
-}
 
-// Every slot leaves.
-pub fn clear(l: Links) -> Links {
-    let head = l.head;
-    let mut next = l.next;
-    let mut prev = l.prev;
-    let mut stack = l.stack;
-    if !list::inspect_links(head, &next, &prev, &stack) {
-        return l;
+    // A slot of the list comes to the front.
+    pub fn raise(&mut self, slot: Slot) {
+        if self.holds(slot) {
+            self.head = list::move_front(self.head, &mut self.next, &mut self.prev, slot);
+        }
     }
-    let h = list::clear(head, &mut next, &mut prev, &mut stack);
-    Links {
-        head: h,
-        next,
-        prev,
-        stack,
-    }
-}
 
-// Whether they are those of a plain list.
-pub fn agrees(l: Links, o: Order) -> bool {
-    let head = l.head;
-    let next = l.next;
-    let prev = l.prev;
-    let stack = l.stack;
-    line::agrees(o, head, &next, &prev, &stack)
+    // So many slots leave by the back.
+    pub fn evict(&mut self, count: u32) {
+        if self.is_sound() && count <= self.head.live {
+            self.head = list::evict(
+                self.head,
+                &mut self.next,
+                &mut self.prev,
+                &mut self.stack,
+                count,
+            );
+        }
+    }
+
+    // Every slot leaves.
+    pub fn clear(&mut self) {
+        if self.is_sound() {
+            self.head = list::clear(self.head, &mut self.next, &mut self.prev, &mut self.stack);
+        }
+    }
 }
