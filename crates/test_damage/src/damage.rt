@@ -1,7 +1,7 @@
 // The damages to a state, and what inspection and the plain check say of each.
 use crate::state::{List, MOST_CAPACITY, NONE, State, UNUSED};
 use std::fmt;
-use test_kit::shaken;
+use test_kit::{Count, Xorshift};
 
 // What a number becomes.
 #[derive(Clone, Copy)]
@@ -72,17 +72,17 @@ impl Way {
 // What is counted.
 #[derive(Clone, Copy, Default)]
 pub struct Tally {
-    states: u64,
+    states: Count,
     // States that one of the two calls unsound.
-    wrong: u64,
+    wrong: Count,
     // Damages of each kind.
-    cuts: u64,
-    singles: u64,
-    doubles: u64,
+    cuts: Count,
+    singles: Count,
+    doubles: Count,
     // What the two say of them.
-    both_sound: u64,
-    both_unsound: u64,
-    differ: u64,
+    both_sound: Count,
+    both_unsound: Count,
+    differ: Count,
 }
 
 impl fmt::Display for Tally {
@@ -102,30 +102,26 @@ impl fmt::Display for Tally {
     }
 }
 
-fn count(n: &mut u64) {
-    *n = n.saturating_add(1);
-}
-
-// A run over states: the draw to go on from, and the counts.
+// A run over states: where the draws stand, and the counts.
 #[derive(Drop)]
 pub struct Trial {
-    seed: u64,
+    draws: Xorshift,
     pub tally: Tally,
 }
 
 impl Trial {
     pub fn new() -> Trial {
         Trial {
-            seed: 88172645463325252,
+            draws: Xorshift(88172645463325252),
             tally: Tally::default(),
         }
     }
 
     // A state, which both must call sound, and then every damage to it, with so many draws of two numbers.
     pub fn state(&mut self, state: &State, pairs: u64) {
-        count(&mut self.tally.states);
+        self.tally.states.more();
         if !(state.inspected() && state.sound()) {
-            count(&mut self.tally.wrong);
+            self.tally.wrong.more();
         }
         self.cuts(state);
         self.singles(state);
@@ -137,9 +133,9 @@ impl Trial {
     // Asks both about a damaged state.
     fn compare(&mut self, state: &State) {
         match (state.inspected(), state.sound()) {
-            (true, true) => count(&mut self.tally.both_sound),
-            (false, false) => count(&mut self.tally.both_unsound),
-            _ => count(&mut self.tally.differ),
+            (true, true) => self.tally.both_sound.more(),
+            (false, false) => self.tally.both_unsound.more(),
+            _ => self.tally.differ.more(),
         }
     }
 
@@ -152,7 +148,7 @@ impl Trial {
                     cut: Some((list, length)),
                     ..*state
                 });
-                count(&mut self.tally.cuts);
+                self.tally.cuts.more();
             }
         }
     }
@@ -171,14 +167,13 @@ impl Trial {
         hurt.set(place, way.of(state, place));
         if hurt.number(place) != state.number(place) {
             self.compare(&hurt);
-            count(&mut self.tally.singles);
+            self.tally.singles.more();
         }
     }
 
     // Two needed numbers, drawn at random: swapped, or one more and one less, or each changed in a way of its own.
     fn double(&mut self, state: &State) {
-        let seed = shaken(self.seed);
-        self.seed = seed;
+        let seed = self.draws.next();
         let i = drawn_place(state, seed >> 4);
         let j = drawn_place(state, seed >> 24);
         if i == j {
@@ -197,7 +192,7 @@ impl Trial {
         hurt.set(j, b);
         if hurt.number(i) != state.number(i) && hurt.number(j) != state.number(j) {
             self.compare(&hurt);
-            count(&mut self.tally.doubles);
+            self.tally.doubles.more();
         }
     }
 }
