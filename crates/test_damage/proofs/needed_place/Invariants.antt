@@ -1,6 +1,0 @@
--- The measure of the loop.
-use Rattle.std.proofs.Common.{◌-◌}
-use Rattle.test_damage.proofs.needed_place.Given as goal
-
-abbrev pub decreases-loop-i : goal.decreases-loop-i
-decreases-loop-i l = 153 - l.i
