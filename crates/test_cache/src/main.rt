@@ -2,156 +2,69 @@
 #![tactic(auto)]
 
 use door::Said;
-use head::{Answer, Command, Form, Head, Refusal, Row};
+use head::{Answer, Code, Command, Form, Head, Row};
 use script_read::Line;
-use std::io;
-use test_turns::{Turn, say, say_flag, say_number};
+use std::{fmt, io};
+use test_turns::{List, Request, Turn};
 
 // ---- the line
 
-fn say_row(rt: &impl Print, row: Row) -> io::Result<()> {
-    say_number(rt, row.code.0)?;
-    say_number(rt, row.stamp as u64)?;
-    say_number(rt, row.value)?;
-    say_number(rt, row.weight)
-}
+// An entry as it is told.
+#[derive(Clone, Copy)]
+struct Entry(Row);
 
-fn say_one(rt: &impl Print, text: &[u8], n: u64) -> io::Result<()> {
-    say(rt, text)?;
-    say_number(rt, n)
-}
-
-fn say_two(rt: &impl Print, text: &[u8], n: u64, rows: u32) -> io::Result<()> {
-    say_one(rt, text, n)?;
-    say_number(rt, rows as u64)
-}
-
-fn say_now(rt: &impl Print, value: u64, new: bool, rows: u32) -> io::Result<()> {
-    say_one(rt, b" > now", value)?;
-    say_flag(rt, new)?;
-    say_number(rt, rows as u64)
-}
-
-fn say_entry(rt: &impl Print, row: Row) -> io::Result<()> {
-    say(rt, b" > entry")?;
-    say_row(rt, row)
-}
-
-fn say_truth(rt: &impl Print, on: bool) -> io::Result<()> {
-    say(rt, b" > flag")?;
-    say_flag(rt, on)
-}
-
-fn say_refusal(rt: &impl Print, refusal: Refusal) -> io::Result<()> {
-    say_one(rt, b" > no", refusal.number() as u64)
-}
-
-fn say_answer(rt: &impl Print, answer: Answer) -> io::Result<()> {
-    match answer {
-        Answer::No(refusal) => say_refusal(rt, refusal),
-        Answer::New { rows } => say_one(rt, b" > new", rows as u64),
-        Answer::Was { value, rows } => say_two(rt, b" > was", value, rows),
-        Answer::Is(value) => say_one(rt, b" > is", value),
-        Answer::Now { value, new, rows } => say_now(rt, value, new, rows),
-        Answer::Absent => say(rt, b" > absent"),
-        Answer::Entry(row) => say_entry(rt, row),
-        Answer::Done { rows } => say_one(rt, b" > done", rows as u64),
-        Answer::Count(n) => say_one(rt, b" > count", n),
-        Answer::Flag(on) => say_truth(rt, on),
+impl fmt::Display for Entry {
+    fn fmt<W: fmt::Write>(&self, f: &mut fmt::Formatter<W>) -> fmt::Result {
+        let row = self.0;
+        write!(
+            f,
+            "{} {} {} {}",
+            row.code.0, row.stamp, row.value, row.weight
+        )
     }
 }
 
-// The number at a place, 0 past the end.
-fn wide_at(list: &[u64], i: u32) -> u64 {
-    let j = i as usize;
-    if j < list.len() { list[j] } else { 0 }
+// An answer as it is told.
+#[derive(Clone, Copy)]
+struct Told(Answer);
+
+impl fmt::Display for Told {
+    fn fmt<W: fmt::Write>(&self, f: &mut fmt::Formatter<W>) -> fmt::Result {
+        match self.0 {
+            Answer::No(refusal) => write!(f, "no {}", refusal.number()),
+            Answer::New { rows } => write!(f, "new {rows}"),
+            Answer::Was { value, rows } => write!(f, "was {value} {rows}"),
+            Answer::Is(value) => write!(f, "is {value}"),
+            Answer::Now { value, new, rows } => write!(f, "now {value} {} {rows}", u8::from(new)),
+            Answer::Absent => f.write_str("absent"),
+            Answer::Entry(row) => write!(f, "entry {}", Entry(row)),
+            Answer::Done { rows } => write!(f, "done {rows}"),
+            Answer::Count(n) => write!(f, "count {n}"),
+            Answer::Flag(on) => write!(f, "flag {}", u8::from(on)),
+        }
+    }
 }
 
-fn short_at(list: &[u32], i: u32) -> u32 {
-    let j = i as usize;
-    if j < list.len() { list[j] } else { 0 }
-}
-
-fn say_slot(rt: &impl Print, slot: u32) -> io::Result<()> {
-    say_number(rt, slot as u64)
+// What stands at a place, 0 past the end.
+fn at<T: Copy + Default + Drop>(list: &[T], i: u32) -> T {
+    match list.get(i as usize) {
+        Some(x) => *x,
+        None => T::default(),
+    }
 }
 
 // The entry at a place of four lists.
-fn say_place(
-    rt: &impl Print,
-    codes: &[u64],
-    stamps: &[u32],
-    values: &[u64],
-    weights: &[u64],
-    i: u32,
-) -> io::Result<()> {
-    say_number(rt, wide_at(codes, i))?;
-    say_number(rt, short_at(stamps, i) as u64)?;
-    say_number(rt, wide_at(values, i))?;
-    say_number(rt, wide_at(weights, i))
+fn entry_at(codes: &[u64], stamps: &[u32], values: &[u64], weights: &[u64], i: u32) -> Entry {
+    Entry(Row {
+        code: Code(at(codes, i)),
+        stamp: at(stamps, i),
+        value: at(values, i),
+        weight: at(weights, i),
+    })
 }
 
-fn say_handed(
-    rt: &impl Print,
-    codes: &[u64],
-    stamps: &[u32],
-    values: &[u64],
-    weights: &[u64],
-    i: u32,
-) -> io::Result<()> {
-    say(rt, b" row")?;
-    say_place(rt, codes, stamps, values, weights, i)
-}
-
-fn say_rows(
-    rt: &impl Print,
-    codes: &[u64],
-    stamps: &[u32],
-    values: &[u64],
-    weights: &[u64],
-    n: u32,
-) -> io::Result<()> {
-    let mut i: u32 = 0;
-    while i < n {
-        say_handed(rt, codes, stamps, values, weights, i)?;
-        i += 1;
-    }
-    Ok(())
-}
-
-// The entries front to back, each behind its slot.
-fn say_order(
-    rt: &impl Print,
-    codes: &[u64],
-    stamps: &[u32],
-    values: &[u64],
-    weights: &[u64],
-    next: &[u32],
-    front: u32,
-    n: u32,
-) -> io::Result<()> {
-    let mut slot = front;
-    let mut i: u32 = 0;
-    while i < n {
-        say_slot(rt, slot)?;
-        say_place(rt, codes, stamps, values, weights, slot)?;
-        slot = short_at(next, slot);
-        i += 1;
-    }
-    Ok(())
-}
-
-fn say_stack(rt: &impl Print, stack: &[u32], n: u32) -> io::Result<()> {
-    let mut i: u32 = 0;
-    while i < n {
-        say_slot(rt, short_at(stack, i))?;
-        i += 1;
-    }
-    Ok(())
-}
-
-// Weight, top, live, the entries, the depth of the stack and the slots on it, bottom first.
-fn say_state(
+// Weight, top, live, the entries front to back, each behind its slot, the depth of the stack and the slots on it, bottom first.
+fn print_state(
     rt: &impl Print,
     head: Head,
     codes: &[u64],
@@ -161,80 +74,38 @@ fn say_state(
     next: &[u32],
     stack: &[u32],
 ) -> io::Result<()> {
-    let front = head.front;
-    let top = head.top;
-    let depth = head.depth;
-    say(rt, b" =")?;
-    say_number(rt, head.weight)?;
-    say_number(rt, top.0 as u64)?;
-    say_number(rt, head.live as u64)?;
-    say_order(rt, codes, stamps, values, weights, next, front.0, head.live)?;
-    say_number(rt, depth.0 as u64)?;
-    say_stack(rt, stack, depth.0)?;
-    say(rt, b"\n")
+    print!(rt; " = {} {} {}", head.weight, head.top.0, head.live)?;
+    let mut slot = head.front.0;
+    for _ in 0..head.live {
+        print!(rt;
+            " {slot} {}",
+            entry_at(codes, stamps, values, weights, slot)
+        )?;
+        slot = at(next, slot);
+    }
+    print!(rt; " {}", head.depth.0)?;
+    for slot in stack.iter().take(head.depth.0 as usize) {
+        print!(rt; " {slot}")?;
+    }
+    println!(rt)
 }
 
 // ---- the turns
 
-fn same_links(a: Head, b: Head) -> bool {
-    if a.front.0 != b.front.0 {
-        return false;
+// The line of the script that asks for it.
+fn line_of(request: Request) -> Line {
+    match request {
+        Request::Open {
+            kind,
+            capacity,
+            slots,
+        } => Line::Open {
+            kind,
+            capacity,
+            slots,
+        },
+        Request::Call(command) => Line::Call(command),
     }
-    if a.back.0 != b.back.0 {
-        return false;
-    }
-    if a.top.0 != b.top.0 {
-        return false;
-    }
-    a.depth.0 == b.depth.0
-}
-
-fn same_head(a: Head, b: Head) -> bool {
-    if a.kind != b.kind {
-        return false;
-    }
-    if a.capacity != b.capacity {
-        return false;
-    }
-    if a.slots != b.slots {
-        return false;
-    }
-    if a.live != b.live {
-        return false;
-    }
-    if a.weight != b.weight {
-        return false;
-    }
-    same_links(a, b)
-}
-
-// The head to go on with: a damaged one that came back as it was lent is mended.
-fn mended(whole: Head, hurt: Head, said: Said, t: Turn) -> Head {
-    let left = said.head;
-    if t.field == 0 {
-        return left;
-    }
-    if same_head(hurt, left) { whole } else { left }
-}
-
-// Whether a turn is played as a line of the script: an opening, or what is asked at the door for any command.
-fn as_line(t: Turn) -> bool {
-    if t.door {
-        return true;
-    }
-    t.word == test_turns::OPEN
-}
-
-// The line of the script that a turn is.
-fn line_of(t: Turn) -> Line {
-    if t.word == test_turns::OPEN {
-        return Line::Open {
-            kind: t.b,
-            capacity: t.c,
-            slots: test_turns::narrow(t.d),
-        };
-    }
-    Line::Call(test_turns::command_of(t))
 }
 
 // Makes a call as the public call of its name does: what reads is lent the lists for reading, and only what hands out rows is lent row lists.
@@ -303,7 +174,7 @@ fn by_form(
     }
 }
 
-// Plays a turn as a line of the script, or by the call's form.
+// Plays a turn by the call's form, or, an opening and what is asked at the door, as a line of the script.
 fn act(
     t: Turn,
     head: Head,
@@ -320,9 +191,8 @@ fn act(
     row_values: &mut [u64],
     row_weights: &mut [u64],
 ) -> Said {
-    if !as_line(t) {
-        let command = test_turns::command_of(t);
-        return by_form(
+    match t.request {
+        Request::Call(command) if !t.door => by_form(
             head,
             codes,
             stamps,
@@ -337,98 +207,30 @@ fn act(
             row_values,
             row_weights,
             command,
-        );
+        ),
+        request => script_turn::carry_out(
+            head,
+            codes,
+            stamps,
+            values,
+            weights,
+            next,
+            prev,
+            stack,
+            cells,
+            row_codes,
+            row_stamps,
+            row_values,
+            row_weights,
+            line_of(request),
+        ),
     }
-    let line = line_of(t);
-    script_turn::carry_out(
-        head,
-        codes,
-        stamps,
-        values,
-        weights,
-        next,
-        prev,
-        stack,
-        cells,
-        row_codes,
-        row_stamps,
-        row_values,
-        row_weights,
-        line,
-    )
 }
 
-// Lends the lists, one of them short where the turn says so.
-fn lend(
-    t: Turn,
-    head: Head,
-    codes: &mut [u64],
-    stamps: &mut [u32],
-    values: &mut [u64],
-    weights: &mut [u64],
-    next: &mut [u32],
-    prev: &mut [u32],
-    stack: &mut [u32],
-    cells: &mut [u32],
-    row_codes: &mut [u64],
-    row_stamps: &mut [u32],
-    row_values: &mut [u64],
-    row_weights: &mut [u64],
-) -> Said {
-    let k1 = test_turns::share(1, codes.len(), t);
-    let k2 = test_turns::share(2, stamps.len(), t);
-    let k3 = test_turns::share(3, values.len(), t);
-    let k4 = test_turns::share(4, weights.len(), t);
-    let k5 = test_turns::share(5, next.len(), t);
-    let k6 = test_turns::share(6, prev.len(), t);
-    let k7 = test_turns::share(7, stack.len(), t);
-    let k8 = test_turns::share(8, cells.len(), t);
-    let k9 = test_turns::row_share(9, row_codes.len(), t);
-    let k10 = test_turns::row_share(10, row_stamps.len(), t);
-    let k11 = test_turns::row_share(11, row_values.len(), t);
-    let k12 = test_turns::row_share(12, row_weights.len(), t);
-    act(
-        t,
-        head,
-        &mut codes[..k1],
-        &mut stamps[..k2],
-        &mut values[..k3],
-        &mut weights[..k4],
-        &mut next[..k5],
-        &mut prev[..k6],
-        &mut stack[..k7],
-        &mut cells[..k8],
-        &mut row_codes[..k9],
-        &mut row_stamps[..k10],
-        &mut row_values[..k11],
-        &mut row_weights[..k12],
-    )
-}
-
-// The line of a turn.
-fn report(
-    rt: &impl Print,
-    i: u32,
-    t: Turn,
-    head: Head,
-    said: Said,
-    codes: &[u64],
-    stamps: &[u32],
-    values: &[u64],
-    weights: &[u64],
-    next: &[u32],
-    stack: &[u32],
-    row_codes: &[u64],
-    row_stamps: &[u32],
-    row_values: &[u64],
-    row_weights: &[u64],
-) -> io::Result<()> {
-    let answer = said.answer;
-    test_turns::say_turn(rt, i, t)?;
-    say_answer(rt, answer)?;
-    let rows = answer.rows();
-    say_rows(rt, row_codes, row_stamps, row_values, row_weights, rows)?;
-    say_state(rt, head, codes, stamps, values, weights, next, stack)
+// As much of a list as the turn lends.
+fn lent<T>(t: Turn, list: List, places: &mut [T]) -> &mut [T] {
+    let n = t.lends(list, places.len());
+    &mut places[..n]
 }
 
 // Every turn with its line, in lists that hold 7 everywhere at the start.
@@ -446,45 +248,38 @@ fn main(rt: HostRuntime) -> io::Result<()> {
     let mut row_values = [7u64; 8];
     let mut row_weights = [7u64; 8];
     let mut head = Head::fresh(Head::PLAIN, 8, 8);
-    let mut i: u32 = 0;
-    while i < test_turns::TURNS {
-        let t = test_turns::turn_at(i);
-        let hurt = test_turns::harmed(head, t);
-        let said = lend(
+    let turns = test_turns::turns(rt.alloc())?;
+    for (i, turn) in turns.iter().enumerate() {
+        let t = *turn;
+        let hurt = t.harmed(head);
+        let said = act(
             t,
             hurt,
-            &mut codes,
-            &mut stamps,
-            &mut values,
-            &mut weights,
-            &mut next,
-            &mut prev,
-            &mut stack,
-            &mut cells,
-            &mut row_codes,
-            &mut row_stamps,
-            &mut row_values,
-            &mut row_weights,
+            lent(t, List::Codes, &mut codes),
+            lent(t, List::Stamps, &mut stamps),
+            lent(t, List::Values, &mut values),
+            lent(t, List::Weights, &mut weights),
+            lent(t, List::Next, &mut next),
+            lent(t, List::Prev, &mut prev),
+            lent(t, List::Stack, &mut stack),
+            lent(t, List::Cells, &mut cells),
+            lent(t, List::RowCodes, &mut row_codes),
+            lent(t, List::RowStamps, &mut row_stamps),
+            lent(t, List::RowValues, &mut row_values),
+            lent(t, List::RowWeights, &mut row_weights),
         );
-        head = mended(head, hurt, said, t);
-        report(
-            &rt,
-            i,
-            t,
-            head,
-            said,
-            &codes,
-            &stamps,
-            &values,
-            &weights,
-            &next,
-            &stack,
-            &row_codes,
-            &row_stamps,
-            &row_values,
-            &row_weights,
-        )?;
-        i += 1;
+        // A damaged head that came back as it was lent is mended.
+        if said.head != hurt {
+            head = said.head;
+        }
+        print!(rt; "{i} {t} > {}", Told(said.answer))?;
+        for k in 0..said.answer.rows() {
+            print!(rt;
+                " row {}",
+                entry_at(&row_codes, &row_stamps, &row_values, &row_weights, k)
+            )?;
+        }
+        print_state(&rt, head, &codes, &stamps, &values, &weights, &next, &stack)?;
     }
     Ok(())
 }

@@ -1,17 +1,21 @@
 // Makes calls that hand out rows, each twice on the same state, and writes the rows of both: from the four row lists, and from records.
 #![tactic(auto)]
 
+ghost use Rattle.std.specs.Prelude.{◌<◌};
 ghost use Rattle.store.specs.State.{fields};
 ghost use Rattle.plan.specs.States.{state};
 ghost use Rattle.test_records.specs.Eight.{Lists, ListsTold};
 
 use head::{Answer, Code, Command, Head, Row, Rule};
 use opening::Opened;
-use std::io;
-use test_kit::line::{nth, nth_short};
-use test_kit::narrow;
+use std::{fmt, io};
 
-const CALLS: u32 = 20;
+const BLANK: Row = Row {
+    code: Code(0),
+    stamp: 0,
+    value: 0,
+    weight: 0,
+};
 
 // The rows of a call, in eight records that are blank at first.
 fn recorded(
@@ -32,12 +36,7 @@ fn recorded(
 ) -> [Row; 8]
     ensures { Lists command (state head codes.old stamps.old values.old weights.old next.old prev.old stack.old cells.old) (fields row_codes.old row_stamps.old row_values.old row_weights.old) result }
 {
-    let mut list = [Row {
-        code: Code(0),
-        stamp: 0,
-        value: 0,
-        weight: 0,
-    }; 8];
+    let mut list = [BLANK; 8];
     records::call(
         head,
         codes,
@@ -77,12 +76,7 @@ fn listed(
 ) -> [Row; 8]
     ensures { ListsTold command (state head codes.now stamps.now values.now weights.now next.now prev.now stack.now cells.now) (fields row_codes.old row_stamps.old row_values.old row_weights.old) result }
 {
-    let mut list = [Row {
-        code: Code(0),
-        stamp: 0,
-        value: 0,
-        weight: 0,
-    }; 8];
+    let mut list = [BLANK; 8];
     records::tell(
         head,
         codes,
@@ -111,57 +105,64 @@ fn put(code: u64) -> Command {
     }
 }
 
-// A call of the run, by its number: nine puts, each call that hands out rows, one with more rows than the records hold, one over its ceiling.
-fn command(i: u32) -> Command {
-    match i {
-        9 => put(9),
-        10 => Command::PutOrModify {
+// The calls of the run: ten puts, each call that hands out rows, one with more rows than the records hold, one over its ceiling.
+fn commands() -> [Command; 20] {
+    [
+        put(0),
+        put(1),
+        put(2),
+        put(3),
+        put(4),
+        put(5),
+        put(6),
+        put(7),
+        put(8),
+        put(9),
+        Command::PutOrModify {
             code: Code(10),
             stamp: 8,
             amount: 60,
         },
-        11 => Command::TryPutOrModify {
+        Command::TryPutOrModify {
             code: Code(11),
             stamp: 9,
             amount: 5,
             ceiling: 1000,
         },
-        12 => Command::PutWithWeight {
+        Command::PutWithWeight {
             code: Code(12),
             stamp: 10,
             value: 33,
             weight: 0,
         },
-        13 => Command::List,
-        14 => Command::Retain(Rule::value(60, 100)),
-        15 => Command::List,
-        16 => Command::ListBack,
-        17 => Command::Resize(3),
-        18 => Command::TryPutOrModify {
+        Command::List,
+        Command::Retain(Rule::value(60, 100)),
+        Command::List,
+        Command::ListBack,
+        Command::Resize(3),
+        Command::TryPutOrModify {
             code: Code(11),
             stamp: 9,
             amount: 5,
             ceiling: 4,
         },
-        19 => Command::ListBack,
-        _ => put(i as u64),
-    }
-}
-
-// A word, and a number in decimal.
-fn say(rt: &impl Print, word: &[u8], n: u64) -> io::Result<()> {
-    rt.write_all(word)?;
-    print!(rt; "{n}")
+        Command::ListBack,
+    ]
 }
 
 // A row in brackets: code, stamp, value, weight.
-fn print_row(rt: &impl Print, row: Row) -> io::Result<()> {
-    let code = row.code;
-    say(rt, b" (", code.0)?;
-    say(rt, b" ", row.stamp as u64)?;
-    say(rt, b" ", row.value)?;
-    say(rt, b" ", row.weight)?;
-    rt.write_all(b")")
+#[derive(Clone, Copy)]
+struct Bracketed(Row);
+
+impl fmt::Display for Bracketed {
+    fn fmt<W: fmt::Write>(&self, f: &mut fmt::Formatter<W>) -> fmt::Result {
+        let row = self.0;
+        write!(
+            f,
+            "({} {} {} {})",
+            row.code.0, row.stamp, row.value, row.weight
+        )
+    }
 }
 
 // The four row lists.
@@ -173,57 +174,26 @@ struct Rows {
     weights: [u64; 16],
 }
 
-fn row_at(rows: Rows, i: u64) -> Row {
-    let codes = rows.codes;
-    let stamps = rows.stamps;
-    let values = rows.values;
-    let weights = rows.weights;
-    Row {
-        code: Code(nth(&codes, i)),
-        stamp: narrow(nth_short(&stamps, i)),
-        value: nth(&values, i),
-        weight: nth(&weights, i),
-    }
-}
-
-// The rows of the four lists.
-fn print_numbers(rt: &impl Print, rows: Rows, n: u32) -> io::Result<()> {
-    let mut i: u64 = 0;
-    while i < 8 {
-        if i < (n as u64) {
-            print_row(rt, row_at(rows, i))?;
+impl Rows {
+    fn blank() -> Rows {
+        Rows {
+            codes: [0; 16],
+            stamps: [0; 16],
+            values: [0; 16],
+            weights: [0; 16],
         }
-        i += 1;
     }
-    Ok(())
-}
 
-// The rows of the records.
-fn print_records(rt: &impl Print, list: [Row; 8], n: u32) -> io::Result<()> {
-    let mut i: usize = 0;
-    while i < 8 {
-        if i < n as usize {
-            let row = list[i];
-            print_row(rt, row)?;
+    fn at(&self, i: usize) -> Row
+        requires { i < 16 }
+    {
+        Row {
+            code: Code(self.codes[i]),
+            stamp: self.stamps[i],
+            value: self.values[i],
+            weight: self.weights[i],
         }
-        i += 1;
     }
-    Ok(())
-}
-
-// What a call answered, and its rows in both forms.
-fn show(rt: &impl Print, i: u32, answer: Answer, rows: Rows, list: [Row; 8]) -> io::Result<()> {
-    say(rt, b"call ", i as u64)?;
-    if let Answer::No(r) = answer {
-        say(rt, b" no ", r.number() as u64)?;
-    }
-    let n = answer.rows();
-    say(rt, b": rows ", n as u64)?;
-    rt.write_all(b"\n  numbers")?;
-    print_numbers(rt, rows, n)?;
-    rt.write_all(b"\n  records")?;
-    print_records(rt, list, n)?;
-    rt.write_all(b"\n")
 }
 
 // The cache that the calls are made on.
@@ -240,209 +210,136 @@ struct State {
     cells: [u32; 32],
 }
 
-// What a call leaves, answers and hands out.
-#[derive(Clone, Copy)]
-struct Called {
-    state: State,
+impl State {
+    // A plain cache of capacity 9 and 16 slots. A refused opening would leave a head that every call refuses.
+    fn begun() -> State {
+        let mut state = State {
+            head: Head::fresh(0, 0, 0),
+            codes: [0; 16],
+            stamps: [0; 16],
+            values: [0; 16],
+            weights: [0; 16],
+            next: [0; 16],
+            prev: [0; 16],
+            stack: [0; 16],
+            cells: [0; 32],
+        };
+        let opened = cache::open(
+            Head::PLAIN,
+            9,
+            16,
+            &mut state.codes,
+            &mut state.stamps,
+            &mut state.values,
+            &mut state.weights,
+            &mut state.next,
+            &mut state.prev,
+            &mut state.stack,
+            &mut state.cells,
+        );
+        if let Opened::Cache(head) = opened {
+            state.head = head;
+        }
+        state
+    }
+
+    // One call, with room for as many rows as there are records.
+    fn call(&mut self, rows: &mut Rows, command: Command) -> Answer {
+        let said = records::call_within(
+            self.head,
+            &mut self.codes,
+            &mut self.stamps,
+            &mut self.values,
+            &mut self.weights,
+            &mut self.next,
+            &mut self.prev,
+            &mut self.stack,
+            &mut self.cells,
+            &mut rows.codes,
+            &mut rows.stamps,
+            &mut rows.values,
+            &mut rows.weights,
+            8,
+            command,
+        );
+        self.head = said.head;
+        said.answer
+    }
+
+    // The rows of one call, as records, on a copy of the state.
+    fn as_records(self, command: Command) -> [Row; 8] {
+        let mut state = self;
+        let mut rows = Rows::blank();
+        match command {
+            Command::List | Command::ListBack => listed(
+                state.head,
+                &state.codes,
+                &state.stamps,
+                &state.values,
+                &state.weights,
+                &state.next,
+                &state.prev,
+                &state.stack,
+                &state.cells,
+                &mut rows.codes,
+                &mut rows.stamps,
+                &mut rows.values,
+                &mut rows.weights,
+                command,
+            ),
+            _ => recorded(
+                state.head,
+                &mut state.codes,
+                &mut state.stamps,
+                &mut state.values,
+                &mut state.weights,
+                &mut state.next,
+                &mut state.prev,
+                &mut state.stack,
+                &mut state.cells,
+                &mut rows.codes,
+                &mut rows.stamps,
+                &mut rows.values,
+                &mut rows.weights,
+                command,
+            ),
+        }
+    }
+}
+
+// What a call answered, and its rows in both forms: from the four row lists, and from the records.
+fn show(
+    rt: &impl Print,
+    i: usize,
     answer: Answer,
-    rows: Rows,
-}
-
-// One call, with room for as many rows as there are records.
-fn call(s: State, c: Command) -> Called {
-    let head = s.head;
-    let mut codes = s.codes;
-    let mut stamps = s.stamps;
-    let mut values = s.values;
-    let mut weights = s.weights;
-    let mut next = s.next;
-    let mut prev = s.prev;
-    let mut stack = s.stack;
-    let mut cells = s.cells;
-    let mut row_codes = [0u64; 16];
-    let mut row_stamps = [0u32; 16];
-    let mut row_values = [0u64; 16];
-    let mut row_weights = [0u64; 16];
-    let said = records::call_within(
-        head,
-        &mut codes,
-        &mut stamps,
-        &mut values,
-        &mut weights,
-        &mut next,
-        &mut prev,
-        &mut stack,
-        &mut cells,
-        &mut row_codes,
-        &mut row_stamps,
-        &mut row_values,
-        &mut row_weights,
-        8,
-        c,
-    );
-    let answer = said.answer;
-    let left = said.head;
-    let state = State {
-        head: left,
-        codes,
-        stamps,
-        values,
-        weights,
-        next,
-        prev,
-        stack,
-        cells,
-    };
-    let rows = Rows {
-        codes: row_codes,
-        stamps: row_stamps,
-        values: row_values,
-        weights: row_weights,
-    };
-    Called {
-        state,
-        answer,
-        rows,
+    rows: &Rows,
+    records: &[Row; 8],
+) -> io::Result<()> {
+    print!(rt; "call {i}")?;
+    if let Answer::No(refusal) = answer {
+        print!(rt; " no {}", refusal.number())?;
     }
-}
-
-// The rows of one call, as records, on a copy of the state.
-fn changed(s: State, c: Command) -> [Row; 8] {
-    let head = s.head;
-    let mut codes = s.codes;
-    let mut stamps = s.stamps;
-    let mut values = s.values;
-    let mut weights = s.weights;
-    let mut next = s.next;
-    let mut prev = s.prev;
-    let mut stack = s.stack;
-    let mut cells = s.cells;
-    let mut row_codes = [0u64; 16];
-    let mut row_stamps = [0u32; 16];
-    let mut row_values = [0u64; 16];
-    let mut row_weights = [0u64; 16];
-    recorded(
-        head,
-        &mut codes,
-        &mut stamps,
-        &mut values,
-        &mut weights,
-        &mut next,
-        &mut prev,
-        &mut stack,
-        &mut cells,
-        &mut row_codes,
-        &mut row_stamps,
-        &mut row_values,
-        &mut row_weights,
-        c,
-    )
-}
-
-// The rows of one listing, as records.
-fn told(s: State, c: Command) -> [Row; 8] {
-    let head = s.head;
-    let codes = s.codes;
-    let stamps = s.stamps;
-    let values = s.values;
-    let weights = s.weights;
-    let next = s.next;
-    let prev = s.prev;
-    let stack = s.stack;
-    let cells = s.cells;
-    let mut row_codes = [0u64; 16];
-    let mut row_stamps = [0u32; 16];
-    let mut row_values = [0u64; 16];
-    let mut row_weights = [0u64; 16];
-    listed(
-        head,
-        &codes,
-        &stamps,
-        &values,
-        &weights,
-        &next,
-        &prev,
-        &stack,
-        &cells,
-        &mut row_codes,
-        &mut row_stamps,
-        &mut row_values,
-        &mut row_weights,
-        c,
-    )
-}
-
-// The rows of one call, as records.
-fn as_records(s: State, c: Command) -> [Row; 8] {
-    match c {
-        Command::List | Command::ListBack => told(s, c),
-        _ => changed(s, c),
+    let n = answer.rows() as usize;
+    print!(rt; ": rows {n}\n  numbers")?;
+    for k in 0..n.min(8) {
+        print!(rt; " {}", Bracketed(rows.at(k)))?;
     }
-}
-
-// The head of a cache that was opened; a refused opening would leave a head that every call refuses.
-fn opened(o: Opened) -> Head {
-    match o {
-        Opened::Cache(h) => h,
-        Opened::No(_) => Head::fresh(0, 0, 0),
+    print!(rt; "\n  records")?;
+    for row in records.iter().take(n) {
+        print!(rt; " {}", Bracketed(*row))?;
     }
+    println!(rt)
 }
 
-// A plain cache of capacity 9 and 16 slots.
-fn begun() -> State {
-    let mut codes = [0u64; 16];
-    let mut stamps = [0u32; 16];
-    let mut values = [0u64; 16];
-    let mut weights = [0u64; 16];
-    let mut next = [0u32; 16];
-    let mut prev = [0u32; 16];
-    let mut stack = [0u32; 16];
-    let mut cells = [0u32; 32];
-    let o = cache::open(
-        Head::PLAIN,
-        9,
-        16,
-        &mut codes,
-        &mut stamps,
-        &mut values,
-        &mut weights,
-        &mut next,
-        &mut prev,
-        &mut stack,
-        &mut cells,
-    );
-    let head = opened(o);
-    State {
-        head,
-        codes,
-        stamps,
-        values,
-        weights,
-        next,
-        prev,
-        stack,
-        cells,
-    }
-}
-
-// A call by its number, and what it came to.
-fn step(rt: &impl Print, s: State, i: u32) -> io::Result<State> {
-    let c = command(i);
-    let list = as_records(s, c);
-    let done = call(s, c);
-    let answer = done.answer;
-    let rows = done.rows;
-    show(rt, i, answer, rows, list)?;
-    Ok(done.state)
-}
-
-// The calls are made one after another.
+// The calls are made one after another, each twice on the same state.
 fn main(rt: HostRuntime) -> io::Result<()> {
-    let mut s = begun();
-    let mut i: u32 = 0;
-    while i < CALLS {
-        s = step(&rt, s, i)?;
-        i += 1;
+    let mut state = State::begun();
+    let calls = commands();
+    for (i, call) in calls.iter().enumerate() {
+        let records = state.as_records(*call);
+        let mut rows = Rows::blank();
+        let answer = state.call(&mut rows, *call);
+        show(&rt, i, answer, &rows, &records)?;
     }
     Ok(())
 }

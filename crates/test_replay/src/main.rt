@@ -2,16 +2,24 @@
 // where the text of the answer and the state after it are what was recorded. compare/README.md has the format.
 #![tactic(auto)]
 
-ghost use Rattle.std.specs.Prelude.{◌≤◌, ◌<◌, ◌≡◌, length, IfOk};
+ghost use Rattle.std.specs.Prelude.{suc, ◌*◌, ◌<◌, ◌≤◌, length};
 ghost use Rattle.store.specs.State.{fields};
-ghost use Rattle.test_replay.specs.Playing.{Plays};
+ghost use Rattle.door.specs.Served.{shortest};
+ghost use Rattle.script_write.specs.Lines.{most_line};
 
 use head::Head;
+use std::alloc::{AllocError, Global};
 use std::io;
 use std::io::Read;
 
+// As much of the input as is read.
+const MOST: u64 = 1400000;
+
+// A state line whose last number begins further on counts as one that differs.
+const LAST: usize = 32896;
+
 // How many lines agreed, calls and openings apart, how many did not, and at how many the crate panics.
-#[derive(Clone, Copy)]
+#[derive(Clone, Copy, Default)]
 pub struct Tally {
     pub calls: u32,
     pub openings: u32,
@@ -19,116 +27,32 @@ pub struct Tally {
     pub panics: u32,
 }
 
-// One more.
-fn more(n: u32) -> u32 {
-    if n < 4294967295 { n + 1 } else { n }
-}
-
-// The number at a place, 0 past the end.
-fn wide(list: &[u64], i: u32) -> u64 {
-    let j = i as usize;
-    if j < list.len() { list[j] } else { 0 }
-}
-
-// The same of a list of u32.
-fn short(list: &[u32], i: u32) -> u32 {
-    let j = i as usize;
-    if j < list.len() { list[j] } else { 0 }
-}
-
-// ---- the state line
-
-// Writes a byte. Where there is no room nothing is written, and the place stays.
-fn put(out: &mut [u8], at: usize, byte: u8) -> usize {
-    if at < out.len() {
-        out[at] = byte;
-        return at + 1;
+impl Tally {
+    // Counts a script line, by what is recorded of it.
+    fn count(&mut self, line: &[u8], recorded: &[u8], agreed: bool) {
+        if recorded.starts_with(b"panic\n") {
+            self.panics = self.panics.saturating_add(1);
+        } else if !agreed {
+            self.differ = self.differ.saturating_add(1);
+        } else if line.starts_with(b"open ") {
+            self.openings = self.openings.saturating_add(1);
+        } else {
+            self.calls = self.calls.saturating_add(1);
+        }
     }
-    at
 }
 
-// Writes a space and a number. Where less than 128 bytes are left the text ends with the buffer, so that it is not what was recorded.
-fn number(out: &mut [u8], at: usize, n: u64) -> usize {
-    let size = out.len();
-    if size < 128 {
-        return size;
+// What stands at a place, 0 past the end.
+fn at<T: Copy + Default + Drop>(list: &[T], i: u32) -> T {
+    match list.get(i as usize) {
+        Some(x) => *x,
+        None => T::default(),
     }
-    if size - 128 < at {
-        return size;
-    }
-    let next = script_digits::put(out, at, b' ');
-    script_digits::write(out, next, n)
 }
 
-// Writes an entry: its slot, code, stamp, value and weight.
-fn entry(
-    out: &mut [u8],
-    at: usize,
-    codes: &[u64],
-    stamps: &[u32],
-    values: &[u64],
-    weights: &[u64],
-    slot: u32,
-) -> usize {
-    let a = number(out, at, slot as u64);
-    let b = number(out, a, wide(codes, slot));
-    let c = number(out, b, short(stamps, slot) as u64);
-    let d = number(out, c, wide(values, slot));
-    number(out, d, wide(weights, slot))
-}
-
-// Writes n entries, from a slot on by the next links.
-fn entries(
-    out: &mut [u8],
-    at: usize,
-    codes: &[u64],
-    stamps: &[u32],
-    values: &[u64],
-    weights: &[u64],
-    next: &[u32],
-    front: u32,
-    n: u32,
-) -> usize {
-    let mut place = at;
-    let mut slot = front;
-    let mut left = n;
-    while 0 < left {
-        place = entry(out, place, codes, stamps, values, weights, slot);
-        slot = short(next, slot);
-        left -= 1;
-    }
-    place
-}
-
-// Writes the first n slots of the stack.
-fn waiting(out: &mut [u8], at: usize, stack: &[u32], n: u32) -> usize {
-    let mut place = at;
-    let mut i: u32 = 0;
-    while i < n {
-        place = number(out, place, short(stack, i) as u64);
-        i += 1;
-    }
-    place
-}
-
-// Writes the beginning of the state line.
-fn heading(out: &mut [u8], weight: u64, top: u32, live: u32) -> usize {
-    let a = put(out, 0, b'=');
-    let b = number(out, a, weight);
-    let c = number(out, b, top as u64);
-    number(out, c, live as u64)
-}
-
-// Writes the end of the state line: the stack.
-fn ending(out: &mut [u8], at: usize, stack: &[u32], depth: u32) -> usize {
-    let a = number(out, at, depth as u64);
-    let b = waiting(out, a, stack, depth);
-    put(out, b, b'\n')
-}
-
-// Writes the state line at the beginning of the buffer, and answers how long it is.
+// The state line: the weight, `top`, the entries front to back, each behind its slot, and the stack, bottom first.
 fn state_line(
-    out: &mut [u8],
+    alloc: Global,
     head: Head,
     codes: &[u64],
     stamps: &[u32],
@@ -136,127 +60,58 @@ fn state_line(
     weights: &[u64],
     next: &[u32],
     stack: &[u32],
-) -> usize {
-    let top = head.top.0;
-    let front = head.front.0;
-    let depth = head.depth.0;
-    let a = heading(out, head.weight, top, head.live);
-    let b = entries(
-        out, a, codes, stamps, values, weights, next, front, head.live,
-    );
-    ending(out, b, stack, depth)
+) -> Result<String, AllocError> {
+    let mut line = format!(in alloc; "= {} {} {}", head.weight, head.top.0, head.live)?;
+    let mut slot = head.front.0;
+    for _ in 0..head.live {
+        let code = at(codes, slot);
+        let stamp = at(stamps, slot);
+        let value = at(values, slot);
+        let weight = at(weights, slot);
+        write!(line, " {slot} {code} {stamp} {value} {weight}")?;
+        slot = at(next, slot);
+    }
+    write!(line, " {}", head.depth.0)?;
+    for slot in stack.iter().take(head.depth.0 as usize) {
+        write!(line, " {slot}")?;
+    }
+    writeln!(line)?;
+    Ok(line)
 }
 
-// ---- the comparison
-
-// The place after a text of n bytes, where the input has it at a place; 0 where it has something else.
-fn behind(input: &[u8], at: usize, text: &[u8], n: usize) -> usize {
-    let mut place = at;
-    let mut i: usize = 0;
-    while i < n {
-        if text.len() <= i {
-            return 0;
-        }
-        if input.len() <= place {
-            return 0;
-        }
-        if input[place] != text[i] {
-            return 0;
-        }
-        place += 1;
-        i += 1;
-    }
-    place
+// Whether an answer, and the state line behind it, are what is recorded.
+fn agrees(recorded: &[u8], answer: &[u8], state: &str) -> bool {
+    state.rfind(' ').is_some_and(|last| last <= LAST)
+        && recorded
+            .strip_prefix(answer)
+            .is_some_and(|rest| rest.starts_with(state.as_bytes()))
 }
 
-// Whether the input has the answer, which takes n bytes of the buffer, and then the state line. The buffer is written anew.
-fn agrees(
-    input: &[u8],
-    at: usize,
-    n: usize,
-    head: Head,
-    codes: &[u64],
-    stamps: &[u32],
-    values: &[u64],
-    weights: &[u64],
-    next: &[u32],
-    stack: &[u32],
-    out: &mut [u8],
-) -> bool {
-    let after = behind(input, at, out, n);
-    if after == 0 {
-        return false;
+// The first line, and what stands behind its newline.
+fn first_line(text: &[u8]) -> (&[u8], &[u8]) {
+    match text.iter().position(|byte| *byte == b'\n') {
+        Some(end) => (&text[..end], &text[end + 1..]),
+        None => (text, &[]),
     }
-    let size = state_line(out, head, codes, stamps, values, weights, next, stack);
-    behind(input, after, out, size) != 0
 }
 
-// Counts a line that begins at `from` and whose answer is recorded at `at`.
-fn counted(tally: Tally, input: &[u8], from: usize, at: usize, agreed: bool) -> Tally {
-    let mut t = tally;
-    if behind(input, at, b"panic\n", 6) != 0 {
-        t.panics = more(t.panics);
-        return t;
-    }
-    if !agreed {
-        t.differ = more(t.differ);
-        return t;
-    }
-    if behind(input, from, b"open ", 5) != 0 {
-        t.openings = more(t.openings);
-        return t;
-    }
-    t.calls = more(t.calls);
-    t
-}
-
-// ---- the lines
-
-// Where the line that begins at `from` ends: at the next newline, or at the end of the input.
-fn line_end(input: &[u8], from: usize, n: usize) -> usize
-    requires { (from ≤ n) × (n ≤ length input.now) }
-    ensures { (from ≤ result) × (result ≤ n) }
+// What stands behind the next newline and mark of a script line; nothing where there is none.
+fn next_line(text: &[u8]) -> &[u8]
+    requires { 0 < length text.now }
+    ensures { length result.now < length text.now }
 {
-    let mut at = from;
-    while at < n {
-        if input[at] == b'\n' {
-            return at;
-        }
-        at += 1;
-    }
-    at
-}
-
-// The place after a newline.
-fn past(at: usize, n: usize) -> usize {
-    if at < n { at + 1 } else { n }
-}
-
-// The place behind the newline and the mark of a script line; 0 where they are not at a place.
-fn marked(input: &[u8], at: usize) -> usize {
-    behind(input, at, b"\n> ", 3)
-}
-
-// Where the next script line after the one at `from` begins, behind its `> `; at the end of the input where there is none.
-fn next_line(input: &[u8], from: usize, n: usize) -> usize
-    requires { from < n }
-    ensures { from < result }
-{
-    let mut at = from;
-    while at < n {
-        let next = marked(input, at);
-        if at < next {
+    for i in 0..text.len() {
+        if let Some(next) = text[i..].strip_prefix(b"\n> ") {
             return next;
         }
-        at += 1;
     }
-    n
+    &[]
 }
 
 // Carries out the script lines of the input, one after another, and counts. Before the first opening the head describes no cache.
 fn play(
+    alloc: Global,
     input: &[u8],
-    n: usize,
     codes: &mut [u64],
     stamps: &mut [u32],
     values: &mut [u64],
@@ -270,24 +125,19 @@ fn play(
     row_values: &mut [u64],
     row_weights: &mut [u64],
     out: &mut [u8],
-) -> Tally
-    requires { Plays input.now n (fields row_codes.old row_stamps.old row_values.old row_weights.old) out.old }
+) -> Result<Tally, AllocError>
+    requires { suc (shortest (fields row_codes.old row_stamps.old row_values.old row_weights.old)) * most_line ≤ length out.old }
 {
     let mut head = Head::fresh(0, 0, 0);
-    let mut tally = Tally {
-        calls: 0,
-        openings: 0,
-        differ: 0,
-        panics: 0,
-    };
+    let mut tally = Tally::default();
     // Behind the first `> `.
-    let mut from: usize = 2;
-    while from < n {
-        let to = line_end(input, from, n);
+    let mut rest = input.get(2..).unwrap_or(&[]);
+    while !rest.is_empty() {
+        let (line, recorded) = first_line(rest);
         let done = script_turn::take(
-            input,
-            from,
-            to,
+            line,
+            0,
+            line.len(),
             head,
             codes,
             stamps,
@@ -304,58 +154,25 @@ fn play(
             out,
         );
         head = done.head;
-        let at = past(to, n);
-        let agreed = agrees(
-            input, at, done.size, head, codes, stamps, values, weights, next, stack, out,
-        );
-        tally = counted(tally, input, from, at, agreed);
-        from = next_line(input, from, n);
+        let state = state_line(alloc, head, codes, stamps, values, weights, next, stack)?;
+        let agreed = agrees(recorded, &out[..done.size], state.as_str());
+        tally.count(line, recorded, agreed);
+        rest = next_line(rest);
     }
-    tally
-}
-
-fn say(rt: &impl Print, n: u32, words: &[u8]) -> io::Result<()> {
-    print!(rt; "{n}")?;
-    rt.write_all(words)
-}
-
-fn say_size(rt: &impl Print, n: usize) -> io::Result<()> {
-    println!(rt; "{n} bytes read")
-}
-
-// Reads until the buffer is full or the input ends, and answers how many bytes it put at the start of the buffer.
-fn read_full(source: &mut impl Read, buffer: &mut [u8]) -> io::Result<usize>
-    ensures { IfOk result (λ n. n ≤ length buffer.new) }
-{
-    let mut done: usize = 0;
-    while done < buffer.len() {
-        let n = source.read(&mut buffer[done..])?;
-        if n == 0 {
-            break;
-        }
-        done += n;
-    }
-    Ok(done)
-}
-
-// Room for the recorded list. The ensures has only its length, so that no proof meets that many zeros.
-fn space() -> [u8; 1400000]
-    ensures { 1400000 ≡ length result }
-{
-    [0; 1400000]
+    Ok(tally)
 }
 
 fn main(rt: HostRuntime) -> io::Result<()> {
-    let mut input = space();
-    let n = read_full(&mut rt.stdin(), &mut input)?;
+    let mut input = Vec::new(rt.alloc());
+    let n = rt.stdin().take(MOST).read_to_end(&mut input)?;
     let mut codes = [0u64; 4096];
     let mut stamps = [0u32; 4096];
     let mut values = [0u64; 4096];
     let mut weights = [0u64; 4096];
-    let mut next = [4294967295u32; 4096];
-    let mut prev = [4294967295u32; 4096];
-    let mut stack = [4294967295u32; 4096];
-    let mut cells = [4294967295u32; 8192];
+    let mut next = [Head::NONE; 4096];
+    let mut prev = [Head::NONE; 4096];
+    let mut stack = [Head::NONE; 4096];
+    let mut cells = [Head::NONE; 8192];
     let mut row_codes = [0u64; 256];
     let mut row_stamps = [0u32; 256];
     let mut row_values = [0u64; 256];
@@ -363,8 +180,8 @@ fn main(rt: HostRuntime) -> io::Result<()> {
     // The lines of 256 rows, and a closing line.
     let mut out = [0u8; 33024];
     let tally = play(
+        rt.alloc(),
         &input,
-        n,
         &mut codes,
         &mut stamps,
         &mut values,
@@ -378,10 +195,10 @@ fn main(rt: HostRuntime) -> io::Result<()> {
         &mut row_values,
         &mut row_weights,
         &mut out,
-    );
-    say_size(&rt, n)?;
-    say(&rt, tally.calls, b" calls agree\n")?;
-    say(&rt, tally.openings, b" openings agree\n")?;
-    say(&rt, tally.differ, b" differ\n")?;
-    say(&rt, tally.panics, b" left out where the crate panics\n")
+    )?;
+    println!(rt; "{n} bytes read")?;
+    println!(rt; "{} calls agree", tally.calls)?;
+    println!(rt; "{} openings agree", tally.openings)?;
+    println!(rt; "{} differ", tally.differ)?;
+    println!(rt; "{} left out where the crate panics", tally.panics)
 }

@@ -1,855 +1,763 @@
 // A fixed list of turns over the public calls: what each asks, how it is asked, and how it is told.
 #![tactic(auto)]
 
-ghost use Rattle.std.specs.Prelude.{◌≤◌};
+ghost use Rattle.std.specs.Prelude.{◌≡◌, ◌≤◌, IfNone, IfOk, vec_len};
 
 use head::{Code, Command, Head, Place, Rule, Slot};
-use std::io;
+use std::alloc::{AllocError, Global};
+use std::fmt;
 
-// The words, in an order by which the numbers follow that a word takes.
-const LEN: u32 = 0;
-
-const CAPACITY: u32 = 1;
-
-const WEIGHT: u32 = 2;
-
-const IS_EMPTY: u32 = 3;
-
-const IS_FULL: u32 = 4;
-
-const FRONT: u32 = 5;
-
-const BACK: u32 = 6;
-
-const LIST_FRONT: u32 = 7;
-
-const LIST_BACK: u32 = 8;
-
-const POP_FRONT: u32 = 9;
-
-const POP_BACK: u32 = 10;
-
-const CLEAR: u32 = 11;
-
-const PEEK: u32 = 12;
-
-const CONTAINS: u32 = 13;
-
-const GET: u32 = 14;
-
-const POP: u32 = 15;
-
-const GET_MUT: u32 = 16;
-
-const PEEK_MUT: u32 = 17;
-
-const PUT: u32 = 18;
-
-const PUT_OR_MODIFY: u32 = 19;
-
-const PUT_WITH_WEIGHT: u32 = 20;
-
-const TRY_PUT_OR_MODIFY: u32 = 21;
-
-const RETAIN: u32 = 22;
-
-pub const OPEN: u32 = 23;
-
-const FRONT_MUT: u32 = 24;
-
-const BACK_MUT: u32 = 25;
-
-const RESIZE: u32 = 26;
-
-// A list that is lent short: the state's are 1 to 8, the rows' 9 to 12, and ROWS is all four of these.
-const ROWS: u32 = 13;
-
-// A call with its numbers: a code, a stamp, a value and a weight, or what the word has in their places.
-#[derive(Clone, Copy)]
-pub struct Turn {
-    pub word: u32,
-    pub a: u64,
-    pub b: u32,
-    pub c: u64,
-    pub d: u64,
-    // Asked at the door, and not by the call's own name.
-    pub door: bool,
-    // Of one list only the first so many are lent.
-    pub list: u32,
-    pub lent: u32,
-    // One number of the head is another in this call: 1 to 9, in the order of `Head`.
-    pub field: u32,
-    pub number: u64,
+// A list that is lent, numbered as it is told.
+#[derive(Debug, Clone, Copy, PartialEq, Eq)]
+pub enum List {
+    Codes = 1,
+    Stamps,
+    Values,
+    Weights,
+    Next,
+    Prev,
+    Stack,
+    Cells,
+    RowCodes,
+    RowStamps,
+    RowValues,
+    RowWeights,
+    // All four row lists.
+    Rows,
 }
 
-fn call(word: u32, a: u64, b: u32, c: u64, d: u64) -> Turn {
-    Turn {
-        word,
-        a,
-        b,
-        c,
-        d,
-        door: false,
-        list: 0,
-        lent: 0,
-        field: 0,
-        number: 0,
+impl List {
+    // Whether what is said of this list is said of the other.
+    fn covers(self, other: List) -> bool {
+        let row = matches!(
+            other,
+            List::RowCodes | List::RowStamps | List::RowValues | List::RowWeights
+        );
+        self == other || self == List::Rows && row
     }
 }
 
-fn opening(kind: u32, capacity: u64, slots: u64) -> Turn {
-    call(OPEN, 0, kind, capacity, slots)
+// A list of which only the first places are lent.
+#[derive(Clone, Copy)]
+pub struct Short {
+    pub list: List,
+    pub places: usize,
 }
 
-fn asked(word: u32) -> Turn {
-    call(word, 0, 0, 0, 0)
+// A number of the head, and what stands in its place.
+#[derive(Clone, Copy)]
+pub enum Damage {
+    Kind(u32),
+    Capacity(u64),
+    Slots(u32),
+    Live(u32),
+    Weight(u64),
+    Front(u32),
+    Back(u32),
+    Top(u32),
+    Depth(u32),
 }
 
-fn coded(word: u32, code: u64) -> Turn {
-    call(word, code, 0, 0, 0)
+// What a turn asks for.
+#[derive(Clone, Copy)]
+pub enum Request {
+    Open {
+        // A number: 01 has a refusal for kinds that there are not, and a turn asks for one.
+        kind: u32,
+        capacity: u64,
+        slots: u32,
+    },
+    Call(Command),
+}
+
+// A call, and what is unusual about it.
+#[derive(Clone, Copy)]
+pub struct Turn {
+    pub request: Request,
+    // Request at the door, and not by the call's own name.
+    pub door: bool,
+    pub short: Option<Short>,
+    pub damage: Option<Damage>,
+}
+
+impl Turn {
+    fn usual(request: Request) -> Turn {
+        Turn {
+            request,
+            door: false,
+            short: None,
+            damage: None,
+        }
+    }
+
+    fn at_door(self) -> Turn {
+        Turn { door: true, ..self }
+    }
+
+    fn lending(self, list: List, places: usize) -> Turn {
+        let short = Some(Short { list, places });
+        Turn { short, ..self }
+    }
+
+    fn harming(self, damage: Damage) -> Turn {
+        let damage = Some(damage);
+        Turn { damage, ..self }
+    }
+
+    // How many places of a list are lent, of so many.
+    pub fn lends(self, list: List, places: usize) -> usize
+        ensures { result ≤ places }
+    {
+        match self.short {
+            Some(short) if short.list.covers(list) => places.min(short.places),
+            _ => places,
+        }
+    }
+
+    // The head as the turn lends it.
+    pub fn harmed(self, head: Head) -> Head
+        ensures { IfNone self.damage (result ≡ head) }
+    {
+        match self.damage {
+            None => head,
+            Some(Damage::Kind(kind)) => Head { kind, ..head },
+            Some(Damage::Capacity(capacity)) => Head { capacity, ..head },
+            Some(Damage::Slots(slots)) => Head { slots, ..head },
+            Some(Damage::Live(live)) => Head { live, ..head },
+            Some(Damage::Weight(weight)) => Head { weight, ..head },
+            Some(Damage::Front(slot)) => Head {
+                front: Slot(slot),
+                ..head
+            },
+            Some(Damage::Back(slot)) => Head {
+                back: Slot(slot),
+                ..head
+            },
+            Some(Damage::Top(slot)) => Head {
+                top: Slot(slot),
+                ..head
+            },
+            Some(Damage::Depth(place)) => Head {
+                depth: Place(place),
+                ..head
+            },
+        }
+    }
+}
+
+// ---- the turns
+
+fn opening(kind: u32, capacity: u64, slots: u32) -> Turn {
+    Turn::usual(Request::Open {
+        kind,
+        capacity,
+        slots,
+    })
+}
+
+fn asked(command: Command) -> Turn {
+    Turn::usual(Request::Call(command))
+}
+
+fn get(code: u64) -> Turn {
+    asked(Command::Get(Code(code)))
+}
+
+fn peek(code: u64) -> Turn {
+    asked(Command::Peek(Code(code)))
+}
+
+fn contains(code: u64) -> Turn {
+    asked(Command::Contains(Code(code)))
+}
+
+fn pop(code: u64) -> Turn {
+    asked(Command::Pop(Code(code)))
+}
+
+fn get_mut(code: u64, value: u64) -> Turn {
+    let code = Code(code);
+    asked(Command::GetMut { code, value })
+}
+
+fn peek_mut(code: u64, value: u64) -> Turn {
+    let code = Code(code);
+    asked(Command::PeekMut { code, value })
 }
 
 fn put(code: u64, stamp: u32, value: u64) -> Turn {
-    call(PUT, code, stamp, value, 0)
+    let code = Code(code);
+    asked(Command::Put { code, stamp, value })
 }
 
 fn weighed(code: u64, stamp: u32, value: u64, weight: u64) -> Turn {
-    call(PUT_WITH_WEIGHT, code, stamp, value, weight)
+    let code = Code(code);
+    asked(Command::PutWithWeight {
+        code,
+        stamp,
+        value,
+        weight,
+    })
 }
 
 fn added(code: u64, stamp: u32, amount: u64) -> Turn {
-    call(PUT_OR_MODIFY, code, stamp, amount, 0)
+    let code = Code(code);
+    asked(Command::PutOrModify {
+        code,
+        stamp,
+        amount,
+    })
 }
 
 fn tried(code: u64, stamp: u32, amount: u64, ceiling: u64) -> Turn {
-    call(TRY_PUT_OR_MODIFY, code, stamp, amount, ceiling)
+    let code = Code(code);
+    asked(Command::TryPutOrModify {
+        code,
+        stamp,
+        amount,
+        ceiling,
+    })
 }
 
-fn kept(rule: u32, low: u64, high: u64) -> Turn {
-    call(RETAIN, 0, rule, low, high)
+// A sweep that keeps what a rule names, by its number: 01 has a refusal for rules that there are not, and turns ask for some.
+fn kept(number: u32, low: u64, high: u64) -> Turn {
+    asked(Command::Retain(Rule {
+        number,
+        not: false,
+        low,
+        high,
+    }))
 }
 
-fn swept(rule: u32, low: u64, high: u64) -> Turn {
-    call(RETAIN, 1, rule, low, high)
-}
-
-fn set_at(word: u32, code: u64, value: u64) -> Turn {
-    call(word, code, 0, value, 0)
-}
-
-fn number(word: u32, n: u64) -> Turn {
-    call(word, 0, 0, n, 0)
-}
-
-fn at_door(turn: Turn) -> Turn {
-    let mut t = turn;
-    t.door = true;
-    t
-}
-
-fn lending(turn: Turn, list: u32, lent: u32) -> Turn {
-    let mut t = turn;
-    t.list = list;
-    t.lent = lent;
-    t
-}
-
-fn harming(turn: Turn, field: u32, number: u64) -> Turn {
-    let mut t = turn;
-    t.field = field;
-    t.number = number;
-    t
+// A sweep that keeps what the rule does not name.
+fn swept(number: u32, low: u64, high: u64) -> Turn {
+    asked(Command::Retain(Rule {
+        number,
+        not: true,
+        low,
+        high,
+    }))
 }
 
 // Opening refused: kind, capacity, slots, and each list one short; then allowed.
-fn openings(i: u32) -> Turn {
-    match i {
-        0 => asked(LEN),
-        1 => put(1, 7, 100),
-        2 => opening(2, 10, 4),
-        3 => opening(0, 0, 4),
-        4 => opening(0, 9223372036854775808, 4),
-        5 => opening(1, 10, 0),
-        6 => opening(1, 10, 4097),
-        7 => opening(0, 10, 9),
-        8 => lending(opening(0, 10, 8), 1, 7),
-        9 => lending(opening(0, 10, 8), 2, 7),
-        10 => lending(opening(0, 10, 8), 3, 7),
-        11 => lending(opening(0, 10, 8), 4, 7),
-        12 => lending(opening(0, 10, 8), 5, 7),
-        13 => lending(opening(0, 10, 8), 6, 7),
-        14 => lending(opening(0, 10, 8), 7, 7),
-        15 => lending(opening(0, 10, 8), 8, 15),
-        16 => opening(0, 9223372036854775807, 8),
-        17 => asked(CAPACITY),
-        18 => asked(IS_EMPTY),
-        19 => asked(FRONT),
-        20 => asked(BACK),
-        21 => opening(1, 1, 1),
-        _ => asked(IS_EMPTY),
-    }
+fn openings() -> [Turn; 23] {
+    [
+        asked(Command::Len),
+        put(1, 7, 100),
+        opening(2, 10, 4),
+        opening(0, 0, 4),
+        opening(0, 9223372036854775808, 4),
+        opening(1, 10, 0),
+        opening(1, 10, 4097),
+        opening(0, 10, 9),
+        opening(0, 10, 8).lending(List::Codes, 7),
+        opening(0, 10, 8).lending(List::Stamps, 7),
+        opening(0, 10, 8).lending(List::Values, 7),
+        opening(0, 10, 8).lending(List::Weights, 7),
+        opening(0, 10, 8).lending(List::Next, 7),
+        opening(0, 10, 8).lending(List::Prev, 7),
+        opening(0, 10, 8).lending(List::Stack, 7),
+        opening(0, 10, 8).lending(List::Cells, 15),
+        opening(0, 9223372036854775807, 8),
+        asked(Command::Capacity),
+        asked(Command::IsEmpty),
+        asked(Command::Front),
+        asked(Command::Back),
+        opening(1, 1, 1),
+        asked(Command::IsEmpty),
+    ]
 }
 
 // Examples A, B and C: what pushes out whom.
-fn orders(i: u32) -> Turn {
-    match i {
-        0 => opening(0, 2, 2),
-        1 => put(1, 7, 100),
-        2 => put(2, 7, 200),
-        3 => put(3, 7, 300),
-        4 => asked(LIST_FRONT),
-        5 => opening(0, 2, 2),
-        6 => put(1, 7, 100),
-        7 => put(2, 7, 200),
-        8 => coded(GET, 1),
-        9 => put(3, 7, 300),
-        10 => asked(LIST_BACK),
-        11 => opening(0, 2, 2),
-        12 => put(1, 7, 100),
-        13 => put(2, 7, 200),
-        14 => coded(PEEK, 1),
-        15 => put(3, 7, 300),
-        16 => coded(CONTAINS, 1),
-        _ => coded(CONTAINS, 2),
-    }
+fn orders() -> [Turn; 18] {
+    [
+        opening(0, 2, 2),
+        put(1, 7, 100),
+        put(2, 7, 200),
+        put(3, 7, 300),
+        asked(Command::List),
+        opening(0, 2, 2),
+        put(1, 7, 100),
+        put(2, 7, 200),
+        get(1),
+        put(3, 7, 300),
+        asked(Command::ListBack),
+        opening(0, 2, 2),
+        put(1, 7, 100),
+        put(2, 7, 200),
+        peek(1),
+        put(3, 7, 300),
+        contains(1),
+        contains(2),
+    ]
 }
 
 // Examples D and K: a stamp kept and replaced, a ceiling passed over.
-fn stamps(i: u32) -> Turn {
-    match i {
-        0 => opening(0, 3, 3),
-        1 => put(1, 7, 100),
-        2 => put(1, 8, 101),
-        3 => weighed(1, 8, 102, 0),
-        4 => weighed(2, 8, 102, 1),
-        5 => opening(0, 3, 3),
-        6 => put(1, 7, 40),
-        7 => put(2, 7, 50),
-        8 => tried(1, 9, 20, 50),
-        9 => coded(PEEK, 1),
-        10 => tried(1, 9, 10, 50),
-        11 => tried(3, 9, 51, 50),
-        12 => at_door(tried(3, 9, 50, 50)),
-        13 => added(4, 9, 5),
-        14 => added(3, 8, 18446744073709551615),
-        15 => tried(3, 8, 18446744073709551615, 18446744073709551615),
-        _ => asked(LIST_FRONT),
-    }
+fn stamps() -> [Turn; 17] {
+    [
+        opening(0, 3, 3),
+        put(1, 7, 100),
+        put(1, 8, 101),
+        weighed(1, 8, 102, 0),
+        weighed(2, 8, 102, 1),
+        opening(0, 3, 3),
+        put(1, 7, 40),
+        put(2, 7, 50),
+        tried(1, 9, 20, 50),
+        peek(1),
+        tried(1, 9, 10, 50),
+        tried(3, 9, 51, 50),
+        tried(3, 9, 50, 50).at_door(),
+        added(4, 9, 5),
+        added(3, 8, 18446744073709551615),
+        tried(3, 8, 18446744073709551615, 18446744073709551615),
+        asked(Command::List),
+    ]
 }
 
 // Examples E, F and G: weights.
-fn weights_run(i: u32) -> Turn {
-    match i {
-        0 => opening(1, 10, 4),
-        1 => weighed(1, 7, 100, 3),
-        2 => weighed(2, 7, 200, 4),
-        3 => weighed(3, 7, 300, 1),
-        4 => asked(WEIGHT),
-        5 => asked(LEN),
-        6 => opening(1, 10, 4),
-        7 => weighed(1, 7, 100, 3),
-        8 => weighed(2, 7, 200, 4),
-        9 => weighed(1, 8, 101, 5),
-        10 => asked(LIST_FRONT),
-        11 => weighed(3, 8, 300, 10),
-        12 => weighed(4, 7, 400, 9),
-        13 => asked(IS_FULL),
-        14 => coded(POP, 4),
-        15 => asked(IS_FULL),
-        16 => opening(1, 1, 1),
-        17 => weighed(1, 7, 100, 1),
-        18 => weighed(1, 7, 100, 0),
-        _ => asked(IS_FULL),
-    }
+fn weights_run() -> [Turn; 20] {
+    [
+        opening(1, 10, 4),
+        weighed(1, 7, 100, 3),
+        weighed(2, 7, 200, 4),
+        weighed(3, 7, 300, 1),
+        asked(Command::Weight),
+        asked(Command::Len),
+        opening(1, 10, 4),
+        weighed(1, 7, 100, 3),
+        weighed(2, 7, 200, 4),
+        weighed(1, 8, 101, 5),
+        asked(Command::List),
+        weighed(3, 8, 300, 10),
+        weighed(4, 7, 400, 9),
+        asked(Command::IsFull),
+        pop(4),
+        asked(Command::IsFull),
+        opening(1, 1, 1),
+        weighed(1, 7, 100, 1),
+        weighed(1, 7, 100, 0),
+        asked(Command::IsFull),
+    ]
 }
 
 // Examples H, I and J: resizing, with and without holes; and a shrink that leaves two slots free, of which the higher is taken first.
-fn sizes(i: u32) -> Turn {
-    match i {
-        0 => opening(1, 10, 4),
-        1 => weighed(1, 7, 100, 3),
-        2 => weighed(2, 7, 200, 4),
-        3 => number(RESIZE, 9),
-        4 => number(RESIZE, 8),
-        5 => asked(CAPACITY),
-        6 => opening(0, 3, 8),
-        7 => put(10, 7, 1),
-        8 => put(20, 7, 2),
-        9 => put(30, 7, 3),
-        10 => coded(POP, 10),
-        11 => number(RESIZE, 5),
-        12 => put(40, 7, 4),
-        13 => opening(0, 4, 4),
-        14 => put(10, 7, 1),
-        15 => put(20, 7, 2),
-        16 => put(30, 7, 3),
-        17 => coded(POP, 20),
-        18 => number(RESIZE, 3),
-        19 => put(50, 7, 5),
-        20 => opening(0, 6, 6),
-        21 => put(1, 7, 100),
-        22 => put(2, 7, 200),
-        23 => put(3, 7, 300),
-        24 => put(4, 7, 400),
-        25 => put(5, 7, 500),
-        26 => coded(POP, 2),
-        27 => coded(POP, 4),
-        28 => number(RESIZE, 5),
-        _ => put(6, 7, 600),
-    }
+fn sizes() -> [Turn; 30] {
+    [
+        opening(1, 10, 4),
+        weighed(1, 7, 100, 3),
+        weighed(2, 7, 200, 4),
+        asked(Command::Resize(9)),
+        asked(Command::Resize(8)),
+        asked(Command::Capacity),
+        opening(0, 3, 8),
+        put(10, 7, 1),
+        put(20, 7, 2),
+        put(30, 7, 3),
+        pop(10),
+        asked(Command::Resize(5)),
+        put(40, 7, 4),
+        opening(0, 4, 4),
+        put(10, 7, 1),
+        put(20, 7, 2),
+        put(30, 7, 3),
+        pop(20),
+        asked(Command::Resize(3)),
+        put(50, 7, 5),
+        opening(0, 6, 6),
+        put(1, 7, 100),
+        put(2, 7, 200),
+        put(3, 7, 300),
+        put(4, 7, 400),
+        put(5, 7, 500),
+        pop(2),
+        pop(4),
+        asked(Command::Resize(5)),
+        put(6, 7, 600),
+    ]
 }
 
 // Examples L and M: every slot taken, and a sweep with too few rows.
-fn slots_run(i: u32) -> Turn {
-    match i {
-        0 => opening(0, 5, 2),
-        1 => put(1, 7, 100),
-        2 => put(2, 7, 200),
-        3 => put(3, 7, 300),
-        4 => added(3, 7, 300),
-        5 => tried(3, 7, 300, 400),
-        6 => weighed(3, 7, 300, 0),
-        7 => put(2, 8, 201),
-        8 => weighed(1, 8, 101, 0),
-        9 => coded(POP, 2),
-        10 => put(3, 7, 300),
-        11 => lending(swept(Rule::CODE, 0, 9), ROWS, 1),
-        12 => lending(swept(Rule::CODE, 0, 9), ROWS, 2),
-        13 => opening(1, 20, 2),
-        14 => weighed(1, 7, 100, 9),
-        15 => weighed(2, 7, 200, 0),
-        16 => weighed(3, 7, 300, 0),
-        _ => weighed(3, 7, 300, 9),
-    }
+fn slots_run() -> [Turn; 18] {
+    [
+        opening(0, 5, 2),
+        put(1, 7, 100),
+        put(2, 7, 200),
+        put(3, 7, 300),
+        added(3, 7, 300),
+        tried(3, 7, 300, 400),
+        weighed(3, 7, 300, 0),
+        put(2, 8, 201),
+        weighed(1, 8, 101, 0),
+        pop(2),
+        put(3, 7, 300),
+        swept(Rule::CODE, 0, 9).lending(List::Rows, 1),
+        swept(Rule::CODE, 0, 9).lending(List::Rows, 2),
+        opening(1, 20, 2),
+        weighed(1, 7, 100, 9),
+        weighed(2, 7, 200, 0),
+        weighed(3, 7, 300, 0),
+        weighed(3, 7, 300, 9),
+    ]
 }
 
 // Too few rows lent: by all four lists, and by each alone.
-fn rows_run(i: u32) -> Turn {
-    match i {
-        0 => opening(0, 2, 4),
-        1 => put(1, 7, 100),
-        2 => put(2, 7, 200),
-        3 => lending(put(3, 7, 300), ROWS, 0),
-        4 => lending(added(3, 7, 300), 9, 0),
-        5 => lending(tried(3, 7, 300, 300), 10, 0),
-        6 => lending(weighed(3, 7, 300, 0), 11, 0),
-        7 => lending(put(3, 7, 300), 12, 1),
-        8 => lending(asked(LIST_FRONT), 12, 1),
-        9 => lending(asked(LIST_BACK), 9, 1),
-        10 => lending(asked(LIST_FRONT), ROWS, 2),
-        11 => lending(asked(LIST_BACK), ROWS, 2),
-        12 => lending(number(RESIZE, 1), ROWS, 0),
-        13 => lending(number(RESIZE, 1), 10, 1),
-        14 => opening(1, 10, 4),
-        15 => weighed(1, 7, 100, 2),
-        16 => weighed(2, 7, 200, 2),
-        17 => weighed(3, 7, 300, 1),
-        18 => lending(weighed(4, 7, 400, 7), ROWS, 1),
-        19 => lending(weighed(1, 8, 101, 7), ROWS, 1),
-        20 => lending(weighed(4, 7, 400, 7), ROWS, 2),
-        21 => lending(number(RESIZE, 1), 11, 0),
-        _ => lending(number(RESIZE, 1), 11, 2),
-    }
+fn rows_run() -> [Turn; 23] {
+    [
+        opening(0, 2, 4),
+        put(1, 7, 100),
+        put(2, 7, 200),
+        put(3, 7, 300).lending(List::Rows, 0),
+        added(3, 7, 300).lending(List::RowCodes, 0),
+        tried(3, 7, 300, 300).lending(List::RowStamps, 0),
+        weighed(3, 7, 300, 0).lending(List::RowValues, 0),
+        put(3, 7, 300).lending(List::RowWeights, 1),
+        asked(Command::List).lending(List::RowWeights, 1),
+        asked(Command::ListBack).lending(List::RowCodes, 1),
+        asked(Command::List).lending(List::Rows, 2),
+        asked(Command::ListBack).lending(List::Rows, 2),
+        asked(Command::Resize(1)).lending(List::Rows, 0),
+        asked(Command::Resize(1)).lending(List::RowStamps, 1),
+        opening(1, 10, 4),
+        weighed(1, 7, 100, 2),
+        weighed(2, 7, 200, 2),
+        weighed(3, 7, 300, 1),
+        weighed(4, 7, 400, 7).lending(List::Rows, 1),
+        weighed(1, 8, 101, 7).lending(List::Rows, 1),
+        weighed(4, 7, 400, 7).lending(List::Rows, 2),
+        asked(Command::Resize(1)).lending(List::RowValues, 0),
+        asked(Command::Resize(1)).lending(List::RowValues, 2),
+    ]
 }
 
 // The wrong kind, strange rules and capacities, too heavy: and that 8 comes before 3, 3 before 4, 4 before 5 and 6.
-fn kinds(i: u32) -> Turn {
-    match i {
-        0 => opening(1, 10, 2),
-        1 => weighed(1, 7, 100, 2),
-        2 => weighed(2, 7, 200, 3),
-        3 => put(3, 7, 300),
-        4 => added(1, 7, 1),
-        5 => tried(1, 7, 1, 0),
-        6 => set_at(GET_MUT, 1, 5),
-        7 => set_at(PEEK_MUT, 9, 5),
-        8 => number(FRONT_MUT, 5),
-        9 => number(BACK_MUT, 5),
-        10 => lending(weighed(3, 7, 300, 10), ROWS, 0),
-        11 => weighed(1, 7, 300, 18446744073709551615),
-        12 => number(RESIZE, 0),
-        13 => number(RESIZE, 9223372036854775808),
-        14 => kept(4, 0, 0),
-        15 => at_door(swept(4294967295, 0, 0)),
-        16 => number(RESIZE, 9223372036854775807),
-        17 => weighed(3, 7, 300, 9223372036854775806),
-        18 => asked(CAPACITY),
-        19 => asked(WEIGHT),
-        20 => opening(0, 2, 2),
-        21 => weighed(1, 7, 100, 1),
-        22 => weighed(1, 7, 100, 2),
-        23 => weighed(1, 7, 100, 0),
-        24 => number(FRONT_MUT, 5),
-        25 => number(BACK_MUT, 6),
-        _ => coded(PEEK, 1),
-    }
+fn kinds() -> [Turn; 27] {
+    [
+        opening(1, 10, 2),
+        weighed(1, 7, 100, 2),
+        weighed(2, 7, 200, 3),
+        put(3, 7, 300),
+        added(1, 7, 1),
+        tried(1, 7, 1, 0),
+        get_mut(1, 5),
+        peek_mut(9, 5),
+        asked(Command::FrontMut(5)),
+        asked(Command::BackMut(5)),
+        weighed(3, 7, 300, 10).lending(List::Rows, 0),
+        weighed(1, 7, 300, 18446744073709551615),
+        asked(Command::Resize(0)),
+        asked(Command::Resize(9223372036854775808)),
+        kept(4, 0, 0),
+        swept(4294967295, 0, 0).at_door(),
+        asked(Command::Resize(9223372036854775807)),
+        weighed(3, 7, 300, 9223372036854775806),
+        asked(Command::Capacity),
+        asked(Command::Weight),
+        opening(0, 2, 2),
+        weighed(1, 7, 100, 1),
+        weighed(1, 7, 100, 2),
+        weighed(1, 7, 100, 0),
+        asked(Command::FrontMut(5)),
+        asked(Command::BackMut(6)),
+        peek(1),
+    ]
 }
 
 // Setting values, and readers on both ends.
-fn setting(i: u32) -> Turn {
-    match i {
-        0 => opening(0, 4, 4),
-        1 => number(FRONT_MUT, 1),
-        2 => number(BACK_MUT, 1),
-        3 => set_at(GET_MUT, 1, 1),
-        4 => set_at(PEEK_MUT, 1, 1),
-        5 => asked(POP_FRONT),
-        6 => asked(POP_BACK),
-        7 => coded(POP, 1),
-        8 => coded(GET, 1),
-        9 => asked(CLEAR),
-        10 => put(1, 7, 100),
-        11 => put(2, 8, 200),
-        12 => put(3, 9, 300),
-        13 => set_at(GET_MUT, 1, 101),
-        14 => set_at(PEEK_MUT, 2, 201),
-        15 => number(FRONT_MUT, 102),
-        16 => number(BACK_MUT, 203),
-        17 => asked(FRONT),
-        18 => asked(BACK),
-        19 => asked(LEN),
-        20 => asked(IS_FULL),
-        21 => put(4, 6, 400),
-        22 => asked(IS_FULL),
-        23 => asked(POP_FRONT),
-        24 => asked(POP_BACK),
-        25 => at_door(coded(POP, 1)),
-        26 => asked(LIST_FRONT),
-        27 => asked(CLEAR),
-        28 => asked(LEN),
-        _ => put(5, 5, 500),
-    }
+fn setting() -> [Turn; 30] {
+    [
+        opening(0, 4, 4),
+        asked(Command::FrontMut(1)),
+        asked(Command::BackMut(1)),
+        get_mut(1, 1),
+        peek_mut(1, 1),
+        asked(Command::PopFront),
+        asked(Command::PopBack),
+        pop(1),
+        get(1),
+        asked(Command::Clear),
+        put(1, 7, 100),
+        put(2, 8, 200),
+        put(3, 9, 300),
+        get_mut(1, 101),
+        peek_mut(2, 201),
+        asked(Command::FrontMut(102)),
+        asked(Command::BackMut(203)),
+        asked(Command::Front),
+        asked(Command::Back),
+        asked(Command::Len),
+        asked(Command::IsFull),
+        put(4, 6, 400),
+        asked(Command::IsFull),
+        asked(Command::PopFront),
+        asked(Command::PopBack),
+        pop(1).at_door(),
+        asked(Command::List),
+        asked(Command::Clear),
+        asked(Command::Len),
+        put(5, 5, 500),
+    ]
 }
 
 // Sweeps by each rule, kept and negated, and on a range that holds nothing.
-fn sweeps(i: u32) -> Turn {
-    match i {
-        0 => opening(1, 40, 8),
-        1 => weighed(1, 5, 100, 1),
-        2 => weighed(2, 6, 200, 2),
-        3 => weighed(3, 7, 300, 3),
-        4 => weighed(4, 8, 400, 4),
-        5 => weighed(5, 9, 500, 5),
-        6 => kept(Rule::CODE, 0, 9),
-        7 => kept(Rule::CODE, 2, 9),
-        8 => swept(Rule::VALUE, 300, 300),
-        9 => at_door(asked(LIST_BACK)),
-        10 => kept(Rule::STAMP, 8, 0),
-        11 => weighed(6, 1, 600, 6),
-        12 => kept(Rule::WEIGHT, 0, 5),
-        13 => at_door(swept(Rule::STAMP, 9, 0)),
-        14 => swept(Rule::WEIGHT, 0, 9),
-        15 => asked(IS_EMPTY),
-        16 => weighed(7, 7, 700, 7),
-        17 => weighed(8, 8, 800, 8),
-        18 => kept(Rule::VALUE, 900, 100),
-        _ => asked(WEIGHT),
-    }
+fn sweeps() -> [Turn; 20] {
+    [
+        opening(1, 40, 8),
+        weighed(1, 5, 100, 1),
+        weighed(2, 6, 200, 2),
+        weighed(3, 7, 300, 3),
+        weighed(4, 8, 400, 4),
+        weighed(5, 9, 500, 5),
+        kept(Rule::CODE, 0, 9),
+        kept(Rule::CODE, 2, 9),
+        swept(Rule::VALUE, 300, 300),
+        asked(Command::ListBack).at_door(),
+        kept(Rule::STAMP, 8, 0),
+        weighed(6, 1, 600, 6),
+        kept(Rule::WEIGHT, 0, 5),
+        swept(Rule::STAMP, 9, 0).at_door(),
+        swept(Rule::WEIGHT, 0, 9),
+        asked(Command::IsEmpty),
+        weighed(7, 7, 700, 7),
+        weighed(8, 8, 800, 8),
+        kept(Rule::VALUE, 900, 100),
+        asked(Command::Weight),
+    ]
 }
 
 // Calls at the door, as any command: the same turns as some above.
-fn doors(i: u32) -> Turn {
-    match i {
-        0 => opening(0, 3, 4),
-        1 => at_door(put(1, 7, 100)),
-        2 => at_door(weighed(2, 7, 200, 0)),
-        3 => at_door(added(3, 7, 300)),
-        4 => at_door(tried(1, 7, 1, 100)),
-        5 => at_door(asked(LEN)),
-        6 => at_door(asked(CAPACITY)),
-        7 => at_door(asked(WEIGHT)),
-        8 => at_door(asked(IS_EMPTY)),
-        9 => at_door(asked(IS_FULL)),
-        10 => at_door(asked(FRONT)),
-        11 => at_door(asked(BACK)),
-        12 => at_door(coded(PEEK, 2)),
-        13 => at_door(coded(CONTAINS, 9)),
-        14 => at_door(coded(GET, 2)),
-        15 => at_door(set_at(GET_MUT, 3, 301)),
-        16 => at_door(set_at(PEEK_MUT, 2, 201)),
-        17 => at_door(number(FRONT_MUT, 302)),
-        18 => at_door(number(BACK_MUT, 101)),
-        19 => lending(at_door(put(4, 7, 400)), ROWS, 0),
-        20 => at_door(put(4, 7, 400)),
-        21 => at_door(asked(LIST_FRONT)),
-        22 => at_door(number(RESIZE, 2)),
-        23 => at_door(asked(POP_FRONT)),
-        24 => at_door(asked(POP_BACK)),
-        _ => at_door(asked(CLEAR)),
-    }
+fn doors() -> [Turn; 26] {
+    [
+        opening(0, 3, 4),
+        put(1, 7, 100).at_door(),
+        weighed(2, 7, 200, 0).at_door(),
+        added(3, 7, 300).at_door(),
+        tried(1, 7, 1, 100).at_door(),
+        asked(Command::Len).at_door(),
+        asked(Command::Capacity).at_door(),
+        asked(Command::Weight).at_door(),
+        asked(Command::IsEmpty).at_door(),
+        asked(Command::IsFull).at_door(),
+        asked(Command::Front).at_door(),
+        asked(Command::Back).at_door(),
+        peek(2).at_door(),
+        contains(9).at_door(),
+        get(2).at_door(),
+        get_mut(3, 301).at_door(),
+        peek_mut(2, 201).at_door(),
+        asked(Command::FrontMut(302)).at_door(),
+        asked(Command::BackMut(101)).at_door(),
+        put(4, 7, 400).at_door().lending(List::Rows, 0),
+        put(4, 7, 400).at_door(),
+        asked(Command::List).at_door(),
+        asked(Command::Resize(2)).at_door(),
+        asked(Command::PopFront).at_door(),
+        asked(Command::PopBack).at_door(),
+        asked(Command::Clear).at_door(),
+    ]
 }
 
 // Heads damaged, one number at a time, and lists too short: all refused, and the cache goes on.
-fn damages(i: u32) -> Turn {
-    match i {
-        0 => opening(1, 20, 4),
-        1 => weighed(1, 7, 100, 2),
-        2 => weighed(2, 7, 200, 3),
-        3 => weighed(3, 7, 300, 1),
-        4 => coded(POP, 2),
-        5 => harming(asked(LEN), 1, 2),
-        6 => harming(coded(GET, 1), 2, 0),
-        7 => harming(put(1, 7, 1), 3, 0),
-        8 => harming(weighed(4, 7, 400, 1), 4, 3),
-        9 => harming(asked(WEIGHT), 5, 4),
-        10 => harming(coded(POP, 1), 6, 1),
-        11 => harming(asked(POP_BACK), 7, 2),
-        12 => harming(asked(CLEAR), 8, 2),
-        13 => harming(number(RESIZE, 0), 9, 0),
-        14 => harming(asked(LIST_FRONT), 4, 1),
-        15 => harming(kept(9, 0, 0), 2, 9223372036854775808),
-        16 => harming(set_at(GET_MUT, 1, 1), 3, 4097),
-        17 => lending(coded(PEEK, 1), 1, 3),
-        18 => lending(coded(CONTAINS, 1), 2, 3),
-        19 => lending(asked(IS_FULL), 3, 3),
-        20 => lending(asked(FRONT), 4, 0),
-        21 => lending(asked(BACK), 5, 3),
-        22 => lending(added(1, 7, 1), 6, 3),
-        23 => lending(tried(1, 7, 1, 0), 7, 3),
-        24 => lending(asked(CAPACITY), 8, 7),
-        25 => lending(asked(IS_EMPTY), 8, 8),
-        26 => lending(set_at(PEEK_MUT, 1, 1), 1, 0),
-        27 => harming(number(FRONT_MUT, 1), 1, 7),
-        28 => harming(number(BACK_MUT, 1), 8, 5),
-        29 => lending(asked(POP_FRONT), 4, 3),
-        30 => lending(asked(LIST_BACK), 7, 0),
-        31 => asked(LIST_FRONT),
-        32 => coded(GET, 1),
-        _ => weighed(5, 7, 500, 1),
-    }
+fn damages() -> [Turn; 34] {
+    [
+        opening(1, 20, 4),
+        weighed(1, 7, 100, 2),
+        weighed(2, 7, 200, 3),
+        weighed(3, 7, 300, 1),
+        pop(2),
+        asked(Command::Len).harming(Damage::Kind(2)),
+        get(1).harming(Damage::Capacity(0)),
+        put(1, 7, 1).harming(Damage::Slots(0)),
+        weighed(4, 7, 400, 1).harming(Damage::Live(3)),
+        asked(Command::Weight).harming(Damage::Weight(4)),
+        pop(1).harming(Damage::Front(1)),
+        asked(Command::PopBack).harming(Damage::Back(2)),
+        asked(Command::Clear).harming(Damage::Top(2)),
+        asked(Command::Resize(0)).harming(Damage::Depth(0)),
+        asked(Command::List).harming(Damage::Live(1)),
+        kept(9, 0, 0).harming(Damage::Capacity(9223372036854775808)),
+        get_mut(1, 1).harming(Damage::Slots(4097)),
+        peek(1).lending(List::Codes, 3),
+        contains(1).lending(List::Stamps, 3),
+        asked(Command::IsFull).lending(List::Values, 3),
+        asked(Command::Front).lending(List::Weights, 0),
+        asked(Command::Back).lending(List::Next, 3),
+        added(1, 7, 1).lending(List::Prev, 3),
+        tried(1, 7, 1, 0).lending(List::Stack, 3),
+        asked(Command::Capacity).lending(List::Cells, 7),
+        asked(Command::IsEmpty).lending(List::Cells, 8),
+        peek_mut(1, 1).lending(List::Codes, 0),
+        asked(Command::FrontMut(1)).harming(Damage::Kind(7)),
+        asked(Command::BackMut(1)).harming(Damage::Top(5)),
+        asked(Command::PopFront).lending(List::Weights, 3),
+        asked(Command::ListBack).lending(List::Stack, 0),
+        asked(Command::List),
+        get(1),
+        weighed(5, 7, 500, 1),
+    ]
 }
 
 // A weighed cache of three and four entries: both ends, looked at and taken, codes sought, listings either way, and all cleared.
-fn weighed_ends(i: u32) -> Turn {
-    match i {
-        0 => opening(1, 30, 5),
-        1 => weighed(1, 5, 100, 4),
-        2 => weighed(2, 6, 200, 0),
-        3 => weighed(3, 7, 300, 6),
-        4 => weighed(4, 8, 400, 2),
-        5 => asked(FRONT),
-        6 => asked(BACK),
-        7 => coded(PEEK, 2),
-        8 => coded(PEEK, 9),
-        9 => coded(CONTAINS, 1),
-        10 => coded(CONTAINS, 5),
-        11 => asked(LIST_FRONT),
-        12 => asked(LIST_BACK),
-        13 => coded(GET, 1),
-        14 => asked(LIST_BACK),
-        15 => asked(POP_BACK),
-        16 => at_door(asked(LIST_FRONT)),
-        17 => asked(POP_FRONT),
-        18 => weighed(5, 9, 500, 3),
-        19 => asked(FRONT),
-        20 => asked(BACK),
-        21 => weighed(6, 1, 600, 18),
-        22 => asked(LIST_FRONT),
-        23 => at_door(asked(POP_FRONT)),
-        24 => weighed(7, 2, 700, 1),
-        25 => at_door(asked(POP_BACK)),
-        26 => weighed(8, 3, 800, 0),
-        27 => coded(PEEK, 7),
-        28 => coded(CONTAINS, 4),
-        29 => at_door(asked(LIST_BACK)),
-        30 => asked(CLEAR),
-        _ => asked(LIST_FRONT),
-    }
+fn weighed_ends() -> [Turn; 32] {
+    [
+        opening(1, 30, 5),
+        weighed(1, 5, 100, 4),
+        weighed(2, 6, 200, 0),
+        weighed(3, 7, 300, 6),
+        weighed(4, 8, 400, 2),
+        asked(Command::Front),
+        asked(Command::Back),
+        peek(2),
+        peek(9),
+        contains(1),
+        contains(5),
+        asked(Command::List),
+        asked(Command::ListBack),
+        get(1),
+        asked(Command::ListBack),
+        asked(Command::PopBack),
+        asked(Command::List).at_door(),
+        asked(Command::PopFront),
+        weighed(5, 9, 500, 3),
+        asked(Command::Front),
+        asked(Command::Back),
+        weighed(6, 1, 600, 18),
+        asked(Command::List),
+        asked(Command::PopFront).at_door(),
+        weighed(7, 2, 700, 1),
+        asked(Command::PopBack).at_door(),
+        weighed(8, 3, 800, 0),
+        peek(7),
+        contains(4),
+        asked(Command::ListBack).at_door(),
+        asked(Command::Clear),
+        asked(Command::List),
+    ]
 }
 
 // All turns, scene by scene.
-pub const TURNS: u32 = 318;
-
-// Turn i, scene by scene.
-pub fn turn_at(i: u32) -> Turn {
-    if i < 23 {
-        return openings(i);
-    }
-    if i < 41 {
-        return orders(i - 23);
-    }
-    if i < 58 {
-        return stamps(i - 41);
-    }
-    if i < 78 {
-        return weights_run(i - 58);
-    }
-    if i < 108 {
-        return sizes(i - 78);
-    }
-    if i < 126 {
-        return slots_run(i - 108);
-    }
-    if i < 149 {
-        return rows_run(i - 126);
-    }
-    if i < 176 {
-        return kinds(i - 149);
-    }
-    if i < 206 {
-        return setting(i - 176);
-    }
-    if i < 226 {
-        return sweeps(i - 206);
-    }
-    if i < 252 {
-        return doors(i - 226);
-    }
-    if i < 286 {
-        return damages(i - 252);
-    }
-    weighed_ends(i - 286)
-}
-
-// ---- what a turn asks
-
-// A number cut to 32 bits.
-pub fn narrow(x: u64) -> u32 {
-    (x % 4294967296) as u32
-}
-
-// The calls without numbers.
-fn bare_command(word: u32) -> Command {
-    match word {
-        LEN => Command::Len,
-        CAPACITY => Command::Capacity,
-        WEIGHT => Command::Weight,
-        IS_EMPTY => Command::IsEmpty,
-        IS_FULL => Command::IsFull,
-        FRONT => Command::Front,
-        BACK => Command::Back,
-        LIST_FRONT => Command::List,
-        LIST_BACK => Command::ListBack,
-        POP_FRONT => Command::PopFront,
-        POP_BACK => Command::PopBack,
-        _ => Command::Clear,
-    }
-}
-
-// The calls of one code, and those that set a value.
-fn code_command(word: u32, code: Code, value: u64) -> Command {
-    match word {
-        PEEK => Command::Peek(code),
-        CONTAINS => Command::Contains(code),
-        GET => Command::Get(code),
-        POP => Command::Pop(code),
-        GET_MUT => Command::GetMut { code, value },
-        PEEK_MUT => Command::PeekMut { code, value },
-        FRONT_MUT => Command::FrontMut(value),
-        BACK_MUT => Command::BackMut(value),
-        _ => Command::Resize(value),
-    }
-}
-
-// The calls that put.
-fn put_command(word: u32, code: Code, stamp: u32, value: u64, weight: u64) -> Command {
-    match word {
-        PUT => Command::Put { code, stamp, value },
-        PUT_WITH_WEIGHT => Command::PutWithWeight {
-            code,
-            stamp,
-            value,
-            weight,
-        },
-        PUT_OR_MODIFY => Command::PutOrModify {
-            code,
-            stamp,
-            amount: value,
-        },
-        _ => Command::TryPutOrModify {
-            code,
-            stamp,
-            amount: value,
-            ceiling: weight,
-        },
-    }
-}
-
-fn rule_of(t: Turn) -> Rule {
-    let not = t.a == 1;
-    Rule {
-        number: t.b,
-        not,
-        low: t.c,
-        high: t.d,
-    }
-}
-
-// The command that the turn asks for.
-pub fn command_of(t: Turn) -> Command {
-    let word = t.word;
-    let code = Code(t.a);
-    if word <= CLEAR {
-        return bare_command(word);
-    }
-    if word == RETAIN {
-        let rule = rule_of(t);
-        return Command::Retain(rule);
-    }
-    if word < PUT {
-        return code_command(word, code, t.c);
-    }
-    if word < RETAIN {
-        return put_command(word, code, t.b, t.c, t.d);
-    }
-    code_command(word, code, t.c)
-}
-
-// The old number, or the new one where the field is the one that is meant.
-fn pick(field: u32, meant: u32, new: u64, old: u64) -> u64 {
-    if field == meant { new } else { old }
-}
-
-fn pick_short(field: u32, meant: u32, new: u64, old: u32) -> u32 {
-    if field == meant { narrow(new) } else { old }
-}
-
-// The head as the turn lends it.
-pub fn harmed(head: Head, t: Turn) -> Head {
-    let f = t.field;
-    let n = t.number;
-    let front = pick_short(f, 6, n, head.front.0);
-    let back = pick_short(f, 7, n, head.back.0);
-    let top = pick_short(f, 8, n, head.top.0);
-    let depth = pick_short(f, 9, n, head.depth.0);
-    Head {
-        kind: pick_short(f, 1, n, head.kind),
-        capacity: pick(f, 2, n, head.capacity),
-        slots: pick_short(f, 3, n, head.slots),
-        live: pick_short(f, 4, n, head.live),
-        weight: pick(f, 5, n, head.weight),
-        front: Slot(front),
-        back: Slot(back),
-        top: Slot(top),
-        depth: Place(depth),
-    }
-}
-
-// How much of a list is lent, of so many places.
-pub fn share(list: u32, len: usize, t: Turn) -> usize
-    ensures { result ≤ len }
+pub fn turns(alloc: Global) -> Result<Vec<Turn>, AllocError>
+    ensures { IfOk result (λ v. vec_len v ≡ 318) }
 {
-    if t.list != list {
-        return len;
-    }
-    let k = t.lent as usize;
-    if len < k { len } else { k }
-}
-
-// The same of a row list.
-pub fn row_share(list: u32, len: usize, t: Turn) -> usize
-    ensures { result ≤ len }
-{
-    if t.list == ROWS {
-        return share(ROWS, len, t);
-    }
-    share(list, len, t)
+    let mut turns = Vec::new(alloc);
+    turns.extend_from_slice(&openings())?;
+    turns.extend_from_slice(&orders())?;
+    turns.extend_from_slice(&stamps())?;
+    turns.extend_from_slice(&weights_run())?;
+    turns.extend_from_slice(&sizes())?;
+    turns.extend_from_slice(&slots_run())?;
+    turns.extend_from_slice(&rows_run())?;
+    turns.extend_from_slice(&kinds())?;
+    turns.extend_from_slice(&setting())?;
+    turns.extend_from_slice(&sweeps())?;
+    turns.extend_from_slice(&doors())?;
+    turns.extend_from_slice(&damages())?;
+    turns.extend_from_slice(&weighed_ends())?;
+    Ok(turns)
 }
 
 // ---- how a turn is told
 
-// Text, to standard output.
-pub fn say(rt: &impl Print, text: &[u8]) -> io::Result<()> {
-    rt.write_all(text)
-}
-
-// A space and a number.
-pub fn say_number(rt: &impl Print, n: u64) -> io::Result<()> {
-    print!(rt; " {n}")
-}
-
-fn say_if(rt: &impl Print, on: bool, n: u64) -> io::Result<()> {
-    if on { say_number(rt, n) } else { Ok(()) }
-}
-
-// A space and 1 or 0.
-pub fn say_flag(rt: &impl Print, on: bool) -> io::Result<()> {
-    if on { say(rt, b" 1") } else { say(rt, b" 0") }
-}
-
-// The words without numbers.
-fn say_bare_word(rt: &impl Print, word: u32) -> io::Result<()> {
-    match word {
-        LEN => say(rt, b" len"),
-        CAPACITY => say(rt, b" capacity"),
-        WEIGHT => say(rt, b" weight"),
-        IS_EMPTY => say(rt, b" is_empty"),
-        IS_FULL => say(rt, b" is_full"),
-        FRONT => say(rt, b" front"),
-        BACK => say(rt, b" back"),
-        LIST_FRONT => say(rt, b" list"),
-        LIST_BACK => say(rt, b" list_back"),
-        POP_FRONT => say(rt, b" pop_front"),
-        POP_BACK => say(rt, b" pop_back"),
-        _ => say(rt, b" clear"),
+impl fmt::Display for Damage {
+    fn fmt<W: fmt::Write>(&self, f: &mut fmt::Formatter<W>) -> fmt::Result {
+        match *self {
+            Damage::Kind(n) => write!(f, "head 1 set {n}"),
+            Damage::Capacity(n) => write!(f, "head 2 set {n}"),
+            Damage::Slots(n) => write!(f, "head 3 set {n}"),
+            Damage::Live(n) => write!(f, "head 4 set {n}"),
+            Damage::Weight(n) => write!(f, "head 5 set {n}"),
+            Damage::Front(n) => write!(f, "head 6 set {n}"),
+            Damage::Back(n) => write!(f, "head 7 set {n}"),
+            Damage::Top(n) => write!(f, "head 8 set {n}"),
+            Damage::Depth(n) => write!(f, "head 9 set {n}"),
+        }
     }
 }
 
-// The words with numbers.
-fn say_other_word(rt: &impl Print, word: u32) -> io::Result<()> {
-    match word {
-        PEEK => say(rt, b" peek"),
-        CONTAINS => say(rt, b" contains"),
-        GET => say(rt, b" get"),
-        POP => say(rt, b" pop"),
-        GET_MUT => say(rt, b" get_mut"),
-        PEEK_MUT => say(rt, b" peek_mut"),
-        PUT => say(rt, b" put"),
-        PUT_OR_MODIFY => say(rt, b" put_or_modify"),
-        PUT_WITH_WEIGHT => say(rt, b" putw"),
-        TRY_PUT_OR_MODIFY => say(rt, b" try_put_or_modify"),
-        RETAIN => say(rt, b" retain"),
-        OPEN => say(rt, b" open"),
-        FRONT_MUT => say(rt, b" front_mut"),
-        BACK_MUT => say(rt, b" back_mut"),
-        _ => say(rt, b" resize"),
+impl fmt::Display for Short {
+    fn fmt<W: fmt::Write>(&self, f: &mut fmt::Formatter<W>) -> fmt::Result {
+        let list = self.list as u8;
+        let places = self.places;
+        write!(f, "list {list} lent {places}")
     }
 }
 
-fn between(low: u32, n: u32, high: u32) -> bool {
-    if n < low {
-        return false;
+impl fmt::Display for Request {
+    fn fmt<W: fmt::Write>(&self, f: &mut fmt::Formatter<W>) -> fmt::Result {
+        match *self {
+            Request::Open {
+                kind,
+                capacity,
+                slots,
+            } => write!(f, "open {kind} {capacity} {slots}"),
+            Request::Call(command) => tell(f, command),
+        }
     }
-    n <= high
 }
 
-fn say_numbers(rt: &impl Print, t: Turn) -> io::Result<()> {
-    let word = t.word;
-    say_if(rt, between(PEEK, word, RETAIN), t.a)?;
-    say_if(rt, between(PUT, word, OPEN), t.b as u64)?;
-    say_if(rt, between(GET_MUT, word, RESIZE), t.c)?;
-    say_if(rt, between(PUT_WITH_WEIGHT, word, OPEN), t.d)
+// A call's word and its numbers.
+fn tell<W: fmt::Write>(f: &mut fmt::Formatter<W>, command: Command) -> fmt::Result {
+    match command {
+        Command::Len => f.write_str("len"),
+        Command::Capacity => f.write_str("capacity"),
+        Command::Weight => f.write_str("weight"),
+        Command::IsEmpty => f.write_str("is_empty"),
+        Command::IsFull => f.write_str("is_full"),
+        Command::Front => f.write_str("front"),
+        Command::Back => f.write_str("back"),
+        Command::Peek(code) => write!(f, "peek {}", code.0),
+        Command::Contains(code) => write!(f, "contains {}", code.0),
+        Command::List => f.write_str("list"),
+        Command::ListBack => f.write_str("list_back"),
+        Command::Get(code) => write!(f, "get {}", code.0),
+        Command::Pop(code) => write!(f, "pop {}", code.0),
+        Command::PopFront => f.write_str("pop_front"),
+        Command::PopBack => f.write_str("pop_back"),
+        Command::Put { code, stamp, value } => write!(f, "put {} {stamp} {value}", code.0),
+        Command::PutWithWeight {
+            code,
+            stamp,
+            value,
+            weight,
+        } => write!(f, "putw {} {stamp} {value} {weight}", code.0),
+        Command::Clear => f.write_str("clear"),
+        Command::Retain(rule) => {
+            let not = u8::from(rule.not);
+            write!(f, "retain {not} {} {} {}", rule.number, rule.low, rule.high)
+        }
+        Command::Resize(capacity) => write!(f, "resize {capacity}"),
+        Command::PutOrModify {
+            code,
+            stamp,
+            amount,
+        } => write!(f, "put_or_modify {} {stamp} {amount}", code.0),
+        Command::TryPutOrModify {
+            code,
+            stamp,
+            amount,
+            ceiling,
+        } => write!(f, "try_put_or_modify {} {stamp} {amount} {ceiling}", code.0),
+        Command::GetMut { code, value } => write!(f, "get_mut {} {value}", code.0),
+        Command::PeekMut { code, value } => write!(f, "peek_mut {} {value}", code.0),
+        Command::FrontMut(value) => write!(f, "front_mut {value}"),
+        Command::BackMut(value) => write!(f, "back_mut {value}"),
+    }
 }
 
-// What is unusual about a turn.
-fn say_manner(rt: &impl Print, t: Turn) -> io::Result<()> {
-    if t.door {
-        say(rt, b" door")?;
+// What it asks, and what is unusual about it.
+impl fmt::Display for Turn {
+    fn fmt<W: fmt::Write>(&self, f: &mut fmt::Formatter<W>) -> fmt::Result {
+        let request = self.request;
+        write!(f, "{request}")?;
+        if self.door {
+            f.write_str(" door")?;
+        }
+        if let Some(short) = self.short {
+            write!(f, " {short}")?;
+        }
+        if let Some(damage) = self.damage {
+            write!(f, " {damage}")?;
+        }
+        Ok(())
     }
-    if t.list != 0 {
-        say(rt, b" list")?;
-        say_number(rt, t.list as u64)?;
-        say(rt, b" lent")?;
-        say_number(rt, t.lent as u64)?;
-    }
-    if t.field != 0 {
-        say(rt, b" head")?;
-        say_number(rt, t.field as u64)?;
-        say(rt, b" set")?;
-        say_number(rt, t.number)?;
-    }
-    Ok(())
-}
-
-// The turn as it was asked: its number, its word, its numbers and what is unusual about it.
-pub fn say_turn(rt: &impl Print, i: u32, t: Turn) -> io::Result<()> {
-    let word = t.word;
-    print!(rt; "{i}")?;
-    if word <= CLEAR {
-        say_bare_word(rt, word)?;
-    } else {
-        say_other_word(rt, word)?;
-    }
-    say_numbers(rt, t)?;
-    say_manner(rt, t)
 }
