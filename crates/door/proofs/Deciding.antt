@@ -21,15 +21,17 @@ use Rattle.plan.specs.States.{State, Means, Sound}
 use Rattle.plan.specs.Plans.{move_of, rows_of, Ready}
 use Rattle.plan.proofs.Fitting.{call_proper, call_apart}
 use Rattle.decide.specs.Settled.{Settles}
-use Rattle.act.specs.Acted.{Prepared, Offered}
+use Rattle.plan.specs.declared.Plan.{Plan}
+use Rattle.act.specs.Acted.{Prepared, Offered, HandedOut}
 use Rattle.door.specs.Served.{shortest}
 
 -- the call is decided: the verdict of every described cache
 pub record Decided (m : Command) (lent : ℕ) (s : State) (r : Decision) : Type 0 where
   pub settles : Settles (Means s) (verdict m) lent r
 
-pub decided : {m : Command} {lent : ℕ} {s : State} {r : Decision} → Settles (Means s) (verdict m) lent r → Decided m lent s r
-decided p = record { settles = p }
+-- a decision on what is seen of a state
+pub decided : {m : Command} {lent : ℕ} {s t : State} {r : Decision} → s ≡ t → Settles (Means s) (verdict m) lent r → Decided m lent t r
+decided {m} {lent} {r = r} e p = record { settles = subst (λ (x : State). Settles (Means x) (verdict m) lent r) e p }
 
 module _ {m : Command} {lent : ℕ} {s : State} {r : Decision} (p : Decided m lent s r) where
   -- every described cache is ready for the plan
@@ -71,20 +73,21 @@ offered {s = s} {r} rows p w = record {
 pub lent_by : {m : Command} {lent n : ℕ} {s : State} {r : Decision} → lent ≡ n → Decided m lent s r → Decided m n s r
 lent_by e p = rw (← e) p
 
+-- rows that were handed out of what is seen of a state
+pub handed_by : {p : Plan} {s t : State} {rows rows' : Fields} → s ≡ t → HandedOut p s.head s.fields s.nexts s.prevs rows rows'
+    → HandedOut p t.head t.fields t.nexts t.prevs rows rows'
+handed_by {p} {rows = rows} {rows'} e o = subst (λ (x : State). HandedOut p x.head x.fields x.nexts x.prevs rows rows') e o
+
 -- ---- what the tests at the door tell
 
--- the inspection passed
-pub sound_found : {r : Bool} {s : State} → Decides r (Sound s) → not r ≡ false → Sound s
-sound_found {r} d e = d.yes (not-false r e)
+-- the inspection of what is seen of a state passed
+pub sound_found : {r : Bool} {s t : State} → s ≡ t → Decides r (Sound s) → r ≡ true → Sound t
+sound_found e d h = subst Sound e (d.yes h)
 
 -- it did not
-pub none_found : {r : Bool} {s : State} → Decides r (Sound s) → not r ≡ true → Sound s → ⊥
-none_found {r} d e w = true≢false (sym (d.no w) ∙ not-true r e)
+pub none_found : {r : Bool} {s t : State} → s ≡ t → Decides r (Sound s) → r ≡ false → Sound t → ⊥
+none_found e d h w = true≢false (sym (d.no (subst Sound (sym e) w)) ∙ h)
 
 -- the command's form is one that the door takes, or it is not
-module _ (takes : Form → Bool) {b : Bool} {f g : Form} (p : b ≡ takes f) (q : f ≡ g) where
-  pub form_taken : not b ≡ false → takes g ≡ true
-  form_taken e = ap takes (sym q) ∙ sym p ∙ not-false b e
-
-  pub form_other : not b ≡ true → takes g ≡ false
-  form_other e = ap takes (sym q) ∙ sym p ∙ not-true b e
+pub form_known : (takes : Form → Bool) {b c : Bool} {f g : Form} → b ≡ takes f → f ≡ g → b ≡ c → takes g ≡ c
+form_known takes p q e = ap takes (sym q) ∙ sym p ∙ e

@@ -1,6 +1,8 @@
 -- A decision carried out is what the definitions say of the call; and what is refused before one is made.
 -- Assumes nothing.
-use Prim.Native.Nat.{ℕ}
+use Prim.Native.Nat.{ℕ, min}
+use native.Mathlib.Omega.{arith}
+use Rattle.head.specs.declared.Answer.{Answer}
 use mathlib.Core.Bool.{true, false}
 use mathlib.Core.List.{List}
 use mathlib.Core.Path.{◌≡◌, refl, sym, ap, ◌∙◌, subst}
@@ -21,6 +23,7 @@ use Rattle.plan.specs.States.{State, Means, Sound}
 use Rattle.plan.specs.Plans.{move_of, rows_of, cells_stay}
 use Rattle.act.specs.Acted.{Acted, HandedOut}
 use Rattle.door.specs.Served.{Serves, shortest, Calls, is_reader, is_teller, Reads, Tells}
+use Rattle.door.specs.Within.{lent, CallsWithin, told_answer, told_rows, TellsWithin}
 use Rattle.door.proofs.Deciding.{Decided, ready}
 
 module _ {m : Command} {lent : ℕ} {s : State} {r : Decision} (p : Decided m lent s r) where
@@ -56,16 +59,35 @@ module _ {m : Command} {lent : ℕ} {s : State} {r : Decision} (p : Decided m le
       subst (λ (x : List Row). Written x rows rows') (handing c d)
       (o.written c (p.settles.named c d) (record { stack = s.stack; cells = s.cells; described = d }))
 
-module _ {m : Command} {s : State} {r : Decision} {rows rows' : Fields} (p : Decided m (shortest rows) s r) (w : Sound s)
+module _ {m : Command} {room : ℕ} {s : State} {r : Decision} {rows rows' : Fields} (p : Decided m (lent room rows) s r) (w : Sound s)
     (o : HandedOut r.plan s.head s.fields s.nexts s.prevs rows rows') where
-  pub calls : {t : State} → Acted r.plan s t → Calls m s t rows rows' r.answer
-  calls a = record { serves = serves p w a; hands = hands p o; unsound = λ n. absurd (n w) }
+  pub calls_within : {t : State} → Acted r.plan s t → CallsWithin m room s t rows rows' r.answer
+  calls_within a = record { serves = serves p w a; hands = hands p o; unsound = λ n. absurd (n w) }
 
-  pub tells : is_teller (form_of m) ≡ true → Tells m s rows rows' r.answer
-  tells k = record {
+  pub tells_within : is_teller (form_of m) ≡ true → TellsWithin m room s rows rows' r.answer
+  tells_within k = record {
     answer = λ c d. rw k (answered p c d);
     hands = λ c d. rw k (hands p o c d);
     unsound = λ n. absurd (n w);
+  }
+
+-- with room for as many rows as the lists hold, a call is a call with all of them lent
+module _ {m : Command} {room : ℕ} {s : State} {rows rows' : Fields} (e : room ≡ shortest rows) where
+  all_lent : lent room rows ≡ shortest rows
+  all_lent = rw e (let z : min (shortest rows) (shortest rows) ≡ shortest rows = omega arith in z)
+
+  pub calls : {t : State} {a : Answer} → CallsWithin m room s t rows rows' a → Calls m s t rows rows' a
+  calls {t} {a} q = record {
+    serves = subst (λ (n : ℕ). Serves m n s t a) all_lent q.serves;
+    hands = λ c d. subst (λ (n : ℕ). Written (perform m n c).rows rows rows') all_lent (q.hands c d);
+    unsound = q.unsound;
+  }
+
+  pub tells : {a : Answer} → TellsWithin m room s rows rows' a → Tells m s rows rows' a
+  tells {a} q = record {
+    answer = λ c d. subst (λ (n : ℕ). a ≡ told_answer m n c) all_lent (q.answer c d);
+    hands = λ c d. subst (λ (n : ℕ). Written (told_rows m n c) rows rows') all_lent (q.hands c d);
+    unsound = q.unsound;
   }
 
 pub reads : {m : Command} {s : State} {r : Decision} → Decided m 0 s r → Sound s → is_reader (form_of m) ≡ true → Reads m s r.answer
@@ -76,23 +98,23 @@ reads p w k = record { sound = λ c d. rw k (answered p c d); unsound = λ n. ab
 pub serves_none : {m : Command} {lent : ℕ} {s : State} → (Sound s → ⊥) → Serves m lent s s (No Unsound)
 serves_none n = record { sound = λ c d. absurd (n (record { cache = c; described = d })); unsound = λ z. (refl, refl) }
 
-module _ {m : Command} {s : State} {rows : Fields} where
-  pub calls_none : (Sound s → ⊥) → Calls m s s rows rows (No Unsound)
-  calls_none n = record {
+module _ {m : Command} {room : ℕ} {s : State} {rows : Fields} where
+  pub within_none : (Sound s → ⊥) → CallsWithin m room s s rows rows (No Unsound)
+  within_none n = record {
     serves = serves_none n;
     hands = λ c d. absurd (n (record { cache = c; described = d }));
     unsound = λ z. refl;
   }
 
-  pub tells_none : (Sound s → ⊥) → Tells m s rows rows (No Unsound)
-  tells_none n = record {
+  pub told_none : (Sound s → ⊥) → TellsWithin m room s rows rows (No Unsound)
+  told_none n = record {
     answer = λ c d. absurd (n (record { cache = c; described = d }));
     hands = λ c d. absurd (n (record { cache = c; described = d }));
     unsound = λ z. (refl, refl);
   }
 
-  pub tells_other : Sound s → is_teller (form_of m) ≡ false → Tells m s rows rows (No NotUnderstood)
-  tells_other w k = record {
+  pub told_other : Sound s → is_teller (form_of m) ≡ false → TellsWithin m room s rows rows (No NotUnderstood)
+  told_other w k = record {
     answer = λ c d. rw k refl;
     hands = λ c d. rw k (none_written rows);
     unsound = λ n. absurd (n w);

@@ -5,22 +5,56 @@ ghost use Rattle.std.specs.Prelude.{◌≡◌};
 ghost use Rattle.state.specs.State.{held, lent, seen, SameFields, SameLists};
 ghost use Rattle.plan.specs.States.{Sound};
 ghost use Rattle.door.specs.Served.{Serves, Calls, Reads, Tells, is_reader, is_teller};
+ghost use Rattle.door.specs.Within.{CallsWithin, TellsWithin};
 
 use head::{Answer, Command, Form, Refusal};
 use state::{Fields, State, View};
 
-// Any call on a state that is known to be sound. What leaves is written before it goes.
+// Any call on a state that is known to be sound, with room for so many rows. What leaves is written before it goes.
+fn step_within(
+    state: &mut State<'_>,
+    rows: &mut Fields<'_>,
+    room: usize,
+    command: Command,
+) -> Answer
+    requires { Sound (lent state.old) }
+    ensures lists { SameLists state.old state.new }
+    ensures row_lists { SameFields rows.old rows.new }
+    ensures calls { CallsWithin command room (lent state.old) (lent state.new) (held rows.old) (held rows.new) result }
+{
+    let view = state.view();
+    let decision = decide::decide(&view, room.min(rows.room()), command);
+    act::hand_out(&view, decision.plan, rows);
+    act::act(state, decision.plan);
+    decision.answer
+}
+
+// Any call on a state that is known to be sound.
 pub fn step(state: &mut State<'_>, rows: &mut Fields<'_>, command: Command) -> Answer
     requires { Sound (lent state.old) }
     ensures lists { SameLists state.old state.new }
     ensures row_lists { SameFields rows.old rows.new }
     ensures calls { Calls command (lent state.old) (lent state.new) (held rows.old) (held rows.new) result }
 {
-    let view = state.view();
-    let decision = decide::decide(&view, rows.room(), command);
-    act::hand_out(&view, decision.plan, rows);
-    act::act(state, decision.plan);
-    decision.answer
+    let room = rows.room();
+    step_within(state, rows, room, command)
+}
+
+// Any call with room for so many rows, whatever the numbers and lists are.
+pub fn call_within(
+    state: &mut State<'_>,
+    rows: &mut Fields<'_>,
+    room: usize,
+    command: Command,
+) -> Answer
+    ensures lists { SameLists state.old state.new }
+    ensures row_lists { SameFields rows.old rows.new }
+    ensures calls { CallsWithin command room (lent state.old) (lent state.new) (held rows.old) (held rows.new) result }
+{
+    if !inspect::inspect(&state.view()) {
+        return Answer::No(Refusal::Unsound);
+    }
+    step_within(state, rows, room, command)
 }
 
 // Any call, whatever the numbers and lists are.
@@ -29,10 +63,8 @@ pub fn call(state: &mut State<'_>, rows: &mut Fields<'_>, command: Command) -> A
     ensures row_lists { SameFields rows.old rows.new }
     ensures calls { Calls command (lent state.old) (lent state.new) (held rows.old) (held rows.new) result }
 {
-    if !inspect::inspect(&state.view()) {
-        return Answer::No(Refusal::Unsound);
-    }
-    step(state, rows, command)
+    let room = rows.room();
+    call_within(state, rows, room, command)
 }
 
 // A call for which no rows are lent.
@@ -74,10 +106,10 @@ fn is_teller(form: Form) -> bool
     matches!(form, Form::Reading | Form::Listing)
 }
 
-// A call that only reads, listings with their rows included. Any other is refused with 8.
-pub fn tell(view: &View<'_>, rows: &mut Fields<'_>, command: Command) -> Answer
+// A call that only reads, listings with their rows included, with room for so many of them. Any other is refused with 8.
+pub fn tell_within(view: &View<'_>, rows: &mut Fields<'_>, room: usize, command: Command) -> Answer
     ensures lists { SameFields rows.old rows.new }
-    ensures tells { Tells command (seen view.now) (held rows.old) (held rows.new) result }
+    ensures tells { TellsWithin command room (seen view.now) (held rows.old) (held rows.new) result }
 {
     if !inspect::inspect(view) {
         return Answer::No(Refusal::Unsound);
@@ -85,7 +117,16 @@ pub fn tell(view: &View<'_>, rows: &mut Fields<'_>, command: Command) -> Answer
     if !is_teller(command.form()) {
         return Answer::No(Refusal::NotUnderstood);
     }
-    let decision = decide::decide(view, rows.room(), command);
+    let decision = decide::decide(view, room.min(rows.room()), command);
     act::hand_out(view, decision.plan, rows);
     decision.answer
+}
+
+// A call that only reads, listings with their rows included. Any other is refused with 8.
+pub fn tell(view: &View<'_>, rows: &mut Fields<'_>, command: Command) -> Answer
+    ensures lists { SameFields rows.old rows.new }
+    ensures tells { Tells command (seen view.now) (held rows.old) (held rows.new) result }
+{
+    let room = rows.room();
+    tell_within(view, rows, room, command)
 }

@@ -1,10 +1,9 @@
-// Calls whose rows go to a list of records too: the row lists are cut to the records, the call is made, and its rows are copied.
+// Calls whose rows go to a list of records too: the call is made with no more rows lent than there are records, and its rows are copied.
 #![tactic(auto)]
 
-ghost use Rattle.std.specs.Prelude.{◌≡◌, min};
 ghost use Rattle.state.specs.State.{held, lent, seen, viewed, SameFields, SameLists};
 ghost use Rattle.records.specs.Saving.{Saved};
-ghost use Rattle.records.specs.Into.{CallsWithin, TellsWithin, CallsInto, TellsInto};
+ghost use Rattle.records.specs.Into.{CallsInto, TellsInto};
 
 use head::{Answer, Command, Row};
 use state::{Fields, FieldsView, State, View};
@@ -27,42 +26,6 @@ pub fn save(records: &mut [Row], rows: &FieldsView<'_>, count: u32) -> bool
     fits
 }
 
-// Any call, with room for so many rows: the row lists are cut to it.
-pub fn call_within(
-    state: &mut State<'_>,
-    rows: &mut Fields<'_>,
-    room: usize,
-    command: Command,
-) -> Answer
-    ensures lists { SameLists state.old state.new }
-    ensures row_lists { SameFields rows.old rows.new }
-    ensures calls { CallsWithin command room (lent state.old) (lent state.new) (held rows.old) (held rows.new) result }
-{
-    let k = room.min(rows.room());
-    let mut cut = Fields {
-        codes: &mut rows.codes[..k],
-        stamps: &mut rows.stamps[..k],
-        values: &mut rows.values[..k],
-        weights: &mut rows.weights[..k],
-    };
-    door::call(state, &mut cut, command)
-}
-
-// A listing, with room for so many rows.
-pub fn tell_within(view: &View<'_>, rows: &mut Fields<'_>, room: usize, command: Command) -> Answer
-    ensures lists { SameFields rows.old rows.new }
-    ensures tells { TellsWithin command room (seen view.now) (held rows.old) (held rows.new) result }
-{
-    let k = room.min(rows.room());
-    let mut cut = Fields {
-        codes: &mut rows.codes[..k],
-        stamps: &mut rows.stamps[..k],
-        values: &mut rows.values[..k],
-        weights: &mut rows.weights[..k],
-    };
-    door::tell(view, &mut cut, command)
-}
-
 // Any call, its rows in the records too: refusal 6 counts what the records hold, and the shortest row list.
 pub fn call(
     state: &mut State<'_>,
@@ -74,7 +37,7 @@ pub fn call(
     ensures row_lists { SameFields rows.old rows.new }
     ensures calls { CallsInto command (lent state.old) (lent state.new) (held rows.old) (held rows.new) records.old records.new result }
 {
-    let answer = call_within(state, rows, records.len(), command);
+    let answer = door::call_within(state, rows, records.len(), command);
     save(records, &rows.view(), answer.rows());
     answer
 }
@@ -84,7 +47,7 @@ pub fn tell(view: &View<'_>, rows: &mut Fields<'_>, records: &mut [Row], command
     ensures lists { SameFields rows.old rows.new }
     ensures tells { TellsInto command (seen view.now) (held rows.old) (held rows.new) records.old records.new result }
 {
-    let answer = tell_within(view, rows, records.len(), command);
+    let answer = door::tell_within(view, rows, records.len(), command);
     save(records, &rows.view(), answer.rows());
     answer
 }

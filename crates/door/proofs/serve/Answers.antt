@@ -1,19 +1,19 @@
 -- `door::serve` meets its contract.
 -- Assumes nothing.
-use mathlib.Core.Path.{ap}
-use mathlib.Core.Bool.{not}
+use mathlib.Core.Path.{refl}
 use Rattle.door.proofs.Deciding.{decided, prepared, sound_found, none_found}
 use Rattle.door.proofs.Serving.{serves, serves_none}
 use Rattle.door.proofs.serve.Goals as goal
 
-pub returns-then-not-inspect : goal.returns-then-not-inspect
-returns-then-not-inspect c = serves_none (none_found c.inspect.ensures (ap not c.if-not-inspect.true))
+pub returns-then-not-inspect-clause-serves : goal.returns-then-not-inspect-clause-serves
+returns-then-not-inspect-clause-serves c = serves_none (none_found c.view.ensures c.inspect.ensures c.if-not-inspect.true)
 
 pub decide-decision-requires : goal.decide-decision-requires
-decide-decision-requires c = sound_found c.inspect.ensures (ap not c.if-not-inspect.false)
+decide-decision-requires c = sound_found refl c.inspect.ensures c.if-not-inspect.false
 
-pub act-left-requires : goal.act-left-requires
-act-left-requires c = prepared (decided c.decide-decision.ensures) (sound_found c.inspect.ensures (ap not c.if-not-inspect.false))
+pub act-requires : goal.act-requires
+act-requires c = prepared (decided c.view.ensures c.decide-decision.ensures) (sound_found c.view.ensures c.inspect.ensures c.if-not-inspect.false)
 
-pub returns : goal.returns
-returns c = serves (decided c.decide-decision.ensures) (sound_found c.inspect.ensures (ap not c.if-not-inspect.false)) c.act-left.ensures
+pub returns-clause-serves : goal.returns-clause-serves
+returns-clause-serves c =
+    serves (decided c.view.ensures c.decide-decision.ensures) (sound_found c.view.ensures c.inspect.ensures c.if-not-inspect.false) c.act.ensures.acted
