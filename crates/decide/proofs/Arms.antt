@@ -23,9 +23,8 @@ use Rattle.plan.specs.declared.Decision.{Decision}
 use Rattle.plan.specs.declared.Plan.TheVariants.{List as PlanList, ListBack as PlanListBack, Clear as PlanClear}
 use Rattle.plan.specs.Plans.{said}
 use Rattle.plan.specs.States.{State, Means, Sound}
-use Rattle.decide.specs.declared.Wanted.{Wanted}
-use Rattle.decide.specs.declared.Wanted.TheVariants.{For, Nothing}
-use Rattle.decide.specs.Views.{Some, Sought, Loaded}
+use Rattle.std.specs.Prelude.{Option, None, Some}
+use Rattle.decide.specs.Views.{ForSome, Sought, Loaded}
 use Rattle.decide.specs.Settled.{Settles, Always, peek_mut_call}
 use Rattle.decide.specs.Wants.{wanted_by, search_for}
 use Rattle.decide.specs.Numbers.{fitted, Ending, Readable, Reached, shown, popped, assigned}
@@ -34,14 +33,14 @@ use Rattle.decide.proofs.Putting.{fitted_means, fitted_named}
 use Rattle.decide.proofs.Ends.{front_ends, back_ends, end_reached, shown_means, shown_named, popped_means, popped_named, assigned_means, assigned_named}
 
 -- the answer of a search in a state's table
-abbrev answer_in : State → Wanted → Search
+abbrev answer_in : State → Option Code → Search
 answer_in s w = search_for w s.head.slots s.cells s.fields.codes
 
 module _ {s : State} where
   -- ---- a described state, as the deciding functions see it
 
   -- the search for a code was made in its table
-  looked : (k : Code) {a : Search} → a ≡ answer_in s (For k) → (c : Cache) → Means s c → Sought s.head s.fields.values a k.0 c
+  looked : (k : Code) {a : Search} → a ≡ answer_in s (Some k) → (c : Cache) → Means s c → Sought s.head s.fields.values a k.0 c
   looked k q c d = record {
     codes = s.fields.codes;
     stamps = s.fields.stamps;
@@ -54,29 +53,29 @@ module _ {s : State} where
     answer = q;
   }
 
-  loaded : (k : Code) {a : Search} → a ≡ answer_in s (For k) → (c : Cache) → Means s c → Loaded s.head s.fields.values s.fields.weights s.prevs a k.0 c
+  loaded : (k : Code) {a : Search} → a ≡ answer_in s (Some k) → (c : Cache) → Means s c → Loaded s.head s.fields.values s.fields.weights s.prevs a k.0 c
   loaded k q c d = record { searched = looked k q c d; weighted = weighted d }
 
   module _ (w : Sound s) where
     pub opened : Gapped (2 * s.head.slots) s.cells s.fields.codes
     opened = search_open w.described
 
-    reached_for : (k : Wanted) {a : Search} → a ≡ answer_in s k → Reached a s.fields.values
-    reached_for (For k) {a} q = reaches a (looked k q w.cache w.described)
-    reached_for Nothing q = rw q tt
+    reached_for : (k : Option Code) {a : Search} → a ≡ answer_in s k → Reached a s.fields.values
+    reached_for (Some k) {a} q = reaches a (looked k q w.cache w.described)
+    reached_for None q = rw q tt
 
     pub search_reached : (m : Command) {a : Search} → a ≡ answer_in s (wanted_by m) → Reached a s.fields.values
     search_reached m q = reached_for (wanted_by m) q
 
     pub some_loaded : {m : Command} {a : Search} {k : Code} {t v u : ℕ} → m ≡ PutWithWeight k t v u
-        → a ≡ answer_in s (wanted_by m) → Some (Loaded s.head s.fields.values s.fields.weights s.prevs a k.0)
+        → a ≡ answer_in s (wanted_by m) → ForSome (Loaded s.head s.fields.values s.fields.weights s.prevs a k.0)
     unfolding wanted_by
     some_loaded {k = k} e q = record { cache = w.cache; seen = loaded k (rw e at q) w.cache w.described }
 
-    pub some_forward : Some (Forward s.head s.fields s.nexts)
+    pub some_forward : ForSome (Forward s.head s.fields s.nexts)
     some_forward = record { cache = w.cache; seen = forward w.described }
 
-    pub some_weighted : Some (Weighted s.head s.fields.weights s.prevs)
+    pub some_weighted : ForSome (Weighted s.head s.fields.weights s.prevs)
     some_weighted = record { cache = w.cache; seen = weighted w.described }
 
     pub small : s.head.live + s.head.weight ≤ most_capacity
@@ -100,7 +99,7 @@ module _ {s : State} where
   seen_by : (P : Cache → Type 0) {call : Desk → Verdict} {lent : ℕ} {r : Decision} → ((c : Cache) → Means s c → P c) → Settles P call lent r → Settles (Means s) call lent r
   seen_by P v p = record { means = λ c d. p.means c (v c d); named = λ c d. p.named c (v c d) }
 
-  by_code : (k : Code) {a : Search} {call : Desk → Verdict} {lent : ℕ} {r : Decision} → a ≡ answer_in s (For k)
+  by_code : (k : Code) {a : Search} {call : Desk → Verdict} {lent : ℕ} {r : Decision} → a ≡ answer_in s (Some k)
       → Settles (Sought s.head s.fields.values a k.0) call lent r → Settles (Means s) call lent r
   by_code k {a} q p = seen_by (Sought s.head s.fields.values a k.0) (looked k q) p
 

@@ -26,7 +26,7 @@ use Rattle.rows.proofs.Callers.{budgeted, leaves, budgeted_but, leaves_but}
 use Rattle.plan.specs.declared.Decision.{Decision}
 use Rattle.plan.specs.declared.Plan.TheVariants.{Replace, Fit, Sweep}
 use Rattle.plan.specs.Plans.{denied, place_of}
-use Rattle.decide.specs.Views.{Some, Loaded}
+use Rattle.decide.specs.Views.{ForSome, Loaded}
 use Rattle.decide.specs.Settled.{Settles}
 use Rattle.decide.specs.Numbers.{fitted, admitted}
 use Rattle.decide.proofs.Pointing.{points, misses}
@@ -39,10 +39,10 @@ kind_of_lem plain = refl
 kind_of_lem weighed = refl
 
 module _ {h : Head} {values weights prevs : List ℕ} {a : Search} (e : Row) where
-  pub loaded_budgeted : Some (Loaded h values weights prevs a e.code.0) → Budgeted h weights prevs none_mark
+  pub loaded_budgeted : ForSome (Loaded h values weights prevs a e.code.0) → Budgeted h weights prevs none_mark
   loaded_budgeted s = budgeted s.seen.weighted.backward.described
 
-  pub loaded_but : {s : Slot} {cell count : ℕ} → a ≡ FoundSlot s cell count → Some (Loaded h values weights prevs a e.code.0) → Budgeted h weights prevs s.0
+  pub loaded_but : {s : Slot} {cell count : ℕ} → a ≡ FoundSlot s cell count → ForSome (Loaded h values weights prevs a e.code.0) → Budgeted h weights prevs s.0
   loaded_but y x = budgeted_but x.seen.weighted.backward.described _ _ (points x.seen.searched y).there
 
   -- 3, and 4

@@ -10,7 +10,7 @@ use Rattle.store.specs.State.{fields, Describes}
 use Rattle.rows.specs.Views.{Weighted}
 
 -- some cache is seen
-pub record Some (P : Cache → Type 0) : Type 0 where
+pub record ForSome (P : Cache → Type 0) : Type 0 where
   pub cache : Cache
   pub seen : P cache
 

@@ -11,7 +11,7 @@ ghost use Rattle.state.specs.State.{seen, viewed};
 ghost use Rattle.plan.specs.States.{Means, Sound};
 ghost use Rattle.head.specs.declared.Answer.TheVariants.{Done};
 ghost use Rattle.rows.specs.Views.{Forward, Weighted};
-ghost use Rattle.decide.specs.Views.{Some, Sought, Loaded};
+ghost use Rattle.decide.specs.Views.{ForSome, Sought, Loaded};
 ghost use Rattle.decide.specs.Settled.{Settles, Always, peek_mut_call};
 ghost use Rattle.decide.specs.Wants.{wanted_by, search_for};
 ghost use Rattle.decide.specs.Numbers.{fitted, admitted, pushes, entered, modified, Ending, Readable, Reached, shown, popped, assigned};
@@ -22,6 +22,7 @@ use state::{FieldsView, View};
 use table::Search;
 
 // The code that a command looks for, if any.
+#[tactic(auto, unfolding(crate::specs::Wants::wanted_by))]
 fn wanted_by(command: Command) -> Option<Code>
     ensures { result ≡ wanted_by command }
 {
@@ -48,7 +49,12 @@ fn seek(view: &View<'_>, command: Command) -> Search
     let Some(code) = wanted_by(command) else {
         return Search::Empty { cell: 0, count: 0 };
     };
-    table::look(view.cells, view.fields.codes, view.head.slots as usize, code)
+    table::look(
+        view.cells,
+        view.fields.codes,
+        view.head.slots as usize,
+        code,
+    )
 }
 
 // 6 where there are more rows than the lists lent for them hold.
@@ -382,7 +388,7 @@ fn try_put_or_modify(
 }
 
 fn put_with_weight(view: &View<'_>, search: Search, room: usize, row: Row) -> Decision
-    requires { Some (Loaded view.now.head view.now.fields.values.now view.now.fields.weights.now view.now.links.prev.now search row.code.0) }
+    requires { ForSome (Loaded view.now.head view.now.fields.values.now view.now.fields.weights.now view.now.links.prev.now search row.code.0) }
     ensures { Settles (Loaded view.now.head view.now.fields.values.now view.now.fields.weights.now view.now.links.prev.now search row.code.0) (put_with_weight_call row.code.0 row.stamp row.value row.weight) room result }
 {
     let head = view.head;
@@ -418,7 +424,7 @@ fn put_with_weight(view: &View<'_>, search: Search, room: usize, row: Row) -> De
 }
 
 fn retain(view: &View<'_>, room: usize, rule: Rule) -> Decision
-    requires { Some (Forward view.now.head (viewed view.now.fields) view.now.links.next.now) }
+    requires { ForSome (Forward view.now.head (viewed view.now.fields) view.now.links.next.now) }
     ensures { Settles (Forward view.now.head (viewed view.now.fields) view.now.links.next.now) (retain_call rule) room result }
 {
     if Rule::WEIGHT < rule.number {
@@ -443,7 +449,7 @@ fn capacity_ok(capacity: u64) -> bool
 }
 
 fn resize(view: &View<'_>, room: usize, capacity: u64) -> Decision
-    requires { Some (Weighted view.now.head view.now.fields.weights.now view.now.links.prev.now) }
+    requires { ForSome (Weighted view.now.head view.now.fields.weights.now view.now.links.prev.now) }
     ensures { Settles (Weighted view.now.head view.now.fields.weights.now view.now.links.prev.now) (resize_call capacity) room result }
 {
     if !capacity_ok(capacity) {

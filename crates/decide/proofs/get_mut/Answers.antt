@@ -10,8 +10,8 @@ returns-then-head-ne-PLAIN c = λ code lent. not_plain lent _ c.if-head-ne-PLAIN
 pub returns-in_default : goal.returns-in_default
 returns-in_default c = λ code lent. on_plain_lem lent _ c.if-head-ne-PLAIN.false (if_absent lent _ _ c.in_default.is (says _ lent c.say.ensures))
 
-pub bounds-values-i : goal.bounds-values-i
-bounds-values-i c = found_reached _ c.requires c.in-Found.is
+pub bounds-values-slot : goal.bounds-values-slot
+bounds-values-slot c = found_reached _ c.requires c.in-Found.is
 
 pub returns : goal.returns
 returns c = λ code lent. on_plain_lem lent _ c.if-head-ne-PLAIN.false (renew_found lent c.in-Found.is _ c.args.value)

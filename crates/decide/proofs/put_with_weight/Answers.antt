@@ -25,8 +25,8 @@ returns-in_default c =
 pub leaving-k-requires-2 : goal.leaving-k-requires-2
 leaving-k-requires-2 c = loaded_but c.args.row c.in-Found.is c.requires
 
-pub bounds-values-i : goal.bounds-values-i
-bounds-values-i c = found_reached _ (reaches _ c.requires.seen.searched) c.in-Found.is
+pub bounds-view-slot : goal.bounds-view-slot
+bounds-view-slot c = found_reached _ (reaches _ c.requires.seen.searched) c.in-Found.is
 
 pub returns : goal.returns
 returns c =

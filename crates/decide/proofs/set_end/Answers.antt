@@ -9,8 +9,8 @@ returns-then-kind-ne-PLAIN c = assigned_weighed c.args.kind c.args.values.now c.
 pub returns-then-slot-eq-NONE : goal.returns-then-slot-eq-NONE
 returns-then-slot-eq-NONE c = assigned_none c.args.kind c.args.values.now c.args.slot c.args.value c.say.ensures c.if-kind-ne-PLAIN.false c.if-slot-eq-NONE.true
 
-pub bounds-values-i : goal.bounds-values-i
-bounds-values-i c = c.requires c.if-slot-eq-NONE.false
+pub bounds-values-slot : goal.bounds-values-slot
+bounds-values-slot c = c.requires c.if-slot-eq-NONE.false
 
 pub returns : goal.returns
 returns c = assigned_value c.args.kind c.args.values.now c.args.slot c.args.value c.if-kind-ne-PLAIN.false c.if-slot-eq-NONE.false

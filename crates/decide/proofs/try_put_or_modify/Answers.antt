@@ -18,8 +18,8 @@ returns-in_default c =
     let a = c.args in
     try_none a.room c.if-head-ne-PLAIN.false c.in_default.is a.stamp a.amount a.ceiling c.if-ceiling-amount.false c.enter.ensures
 
-pub bounds-values-i : goal.bounds-values-i
-bounds-values-i c = found_reached _ c.requires c.in-Found.is
+pub bounds-values-slot : goal.bounds-values-slot
+bounds-values-slot c = found_reached _ c.requires c.in-Found.is
 
 pub returns-then-over : goal.returns-then-over
 returns-then-over c =
