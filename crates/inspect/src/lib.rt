@@ -68,7 +68,7 @@ fn walk_links(next: &[u32], prev: &[u32], top: u32, back: u32, live: u32, front:
         && meets(next, prev, top, front, back, live - 1)
 }
 
-// Whether each of the stack's places from depth up to n holds none.
+// Whether each of the stack's places from depth up to n holds none. The bits that differ are gathered, so that the loop has no branch.
 fn none_from(stack: &[u32], depth: u32, n: u32) -> bool
     requires { (depth ≤ n) × (n ≤ length stack.now) }
     ensures { result ≡ all_from (n - depth) depth (is_at none_mark stack.now) }
@@ -144,7 +144,7 @@ fn table_ok(cells: &[u32], codes: &[u64], next: &[u32], n: usize, top: u32) -> b
     true
 }
 
-// Whether the first n numbers are 0.
+// Whether the first n numbers are 0. Their bits are gathered, so that the loop has no branch.
 fn all_zero(list: &[u64], n: usize) -> bool
     requires { n ≤ length list.now }
     ensures { result ≡ all_from n 0 (is_at 0 list.now) }

@@ -185,8 +185,8 @@ pub fn stands(cells: &[u32], codes: &[u64], n: usize, slot: Slot) -> bool
 
 // Does each slot that the links walk stand?
 fn all_stand(cells: &[u32], codes: &[u64], next: &[u32], n: usize, front: Slot, live: u32) -> bool
-    requires gapped { Gapped (2 * n) cells.now codes.now }
-    requires listed { Listed n cells.now codes.now next.now (walk next.now front.0 live) }
+    requires search_ends { Gapped (2 * n) cells.now codes.now }
+    requires order_fits { Listed n cells.now codes.now next.now (walk next.now front.0 live) }
     ensures { result ≡ all_standing (home_of n) (2 * n) cells.now codes.now (walk next.now front.0 live) }
 {
     let mut asked = front.0;

@@ -4,7 +4,7 @@ use Rattle.table.proofs.Checked.{ask_start, ask_end, ask_coded, ask_no, ask_on}
 use Rattle.table.proofs.all_stand.Goals as goal
 
 pub loop-init : goal.loop-init
-loop-init c = ask_start _ _ c.requires.gapped c.requires.listed
+loop-init c = ask_start _ _ c.requires.search_ends c.requires.order_fits
 
 pub stands-requires : goal.stands-requires
 stands-requires c = record { table = c.loop.invariant.table; coded = (ask_coded c.loop.invariant c.loop-test.true).0 }

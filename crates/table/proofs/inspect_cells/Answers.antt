@@ -23,8 +23,8 @@ many : (c : Then-as_many) → tallied (length c.args.codes.now) (take (2 * c.arg
 many c =
     inspect_passed (home_lt (omega (arith, c.requires.room))) c.requires (walk_length _ _ _) (sym c.as_many.ensures ∙ c.if-as_many.true)
 
-pub all_stand-requires-clause-gapped : goal.all_stand-requires-clause-gapped
-all_stand-requires-clause-gapped c = tallied_open (hb (goal.at.all_stand-requires-clause-gapped c).Start) c.requires (many (goal.at.all_stand-requires-clause-gapped c).Then-as_many)
+pub all_stand-requires-clause-search_ends : goal.all_stand-requires-clause-search_ends
+all_stand-requires-clause-search_ends c = tallied_open (hb (goal.at.all_stand-requires-clause-search_ends c).Start) c.requires (many (goal.at.all_stand-requires-clause-search_ends c).Then-as_many)
 
 pub returns-then-as_many : goal.returns-then-as_many
 returns-then-as_many c = inspect_rest (hb (goal.at.returns-then-as_many c).Start) c.requires (many (goal.at.returns-then-as_many c).Then-as_many) c.all_stand.ensures
