@@ -1,12 +1,12 @@
 -- What is decided on a sound state can be carried out, and its rows fit.
 -- Assumes nothing.
 use Prim.Native.Nat.{ℕ, ◌≤◌}
-use mathlib.Core.Bool.{Bool, true, false, not, true≢false}
+use mathlib.Core.Bool.{Bool, true, false, true≢false}
 use mathlib.Core.Path.{◌≡◌, sym, ap, subst, ◌∙◌}
 use native.Mathlib.Omega.{arith}
 use lib.Dec.{leb}
 use lib.ListN.{length}
-use borrow.Author.Tests.{leb-true, not-true, not-false}
+use borrow.Author.Tests.{leb-true}
 use Rattle.head.specs.declared.Command.{Command}
 use Rattle.head.specs.declared.Form.{Form}
 use Rattle.head.specs.Fields.{Fields, Reach}
@@ -60,13 +60,13 @@ module _ {m : Command} {lent : ℕ} {s : State} {r : Decision} (p : Decided m le
 shortest_reach : (rows : Fields) (k : ℕ) → k ≤ shortest rows → Reach k rows
 shortest_reach rows k h = record { codes = omega arith; stamps = omega arith; values = omega arith; weights = omega arith }
 
-pub offered : {m : Command} {s : State} {r : Decision} (rows : Fields) → Decided m (shortest rows) s r → Sound s
+pub offered : {m : Command} {n : ℕ} {s : State} {r : Decision} (rows : Fields) → n ≤ shortest rows → Decided m n s r → Sound s
     → Offered r.plan s.head s.fields s.nexts s.prevs rows
-offered {s = s} {r} rows p w = record {
+offered {s = s} {r} rows h p w = record {
   cache = w.cache;
   seen = record { stack = s.stack; cells = s.cells; described = w.described };
   named = p.settles.named w.cache w.described;
-  room = shortest_reach rows (length (rows_of r.plan w.cache)) (rows_most p w.cache w.described);
+  room = shortest_reach rows (length (rows_of r.plan w.cache)) (let k = rows_most p w.cache w.described in omega arith);
 }
 
 -- the decision with as many rows lent as the shortest list holds

@@ -72,21 +72,21 @@ module _ {m : Command} {room : ℕ} {s : State} {r : Decision} {rows rows' : Fie
   }
 
 -- with room for as many rows as the lists hold, a call is a call with all of them lent
-module _ {m : Command} {room : ℕ} {s : State} {rows rows' : Fields} (e : room ≡ shortest rows) where
-  all_lent : lent room rows ≡ shortest rows
-  all_lent = rw e (let z : min (shortest rows) (shortest rows) ≡ shortest rows = omega arith in z)
+all_lent : {room : ℕ} (rows : Fields) → room ≡ shortest rows → lent room rows ≡ shortest rows
+all_lent rows e = rw e (let z : min (shortest rows) (shortest rows) ≡ shortest rows = omega arith in z)
 
+module _ {m : Command} {room : ℕ} {s : State} {rows rows' : Fields} (e : room ≡ shortest rows) where
   pub calls : {t : State} {a : Answer} → CallsWithin m room s t rows rows' a → Calls m s t rows rows' a
   calls {t} {a} q = record {
-    serves = subst (λ (n : ℕ). Serves m n s t a) all_lent q.serves;
-    hands = λ c d. subst (λ (n : ℕ). Written (perform m n c).rows rows rows') all_lent (q.hands c d);
+    serves = subst (λ (n : ℕ). Serves m n s t a) (all_lent rows e) q.serves;
+    hands = λ c d. subst (λ (n : ℕ). Written (perform m n c).rows rows rows') (all_lent rows e) (q.hands c d);
     unsound = q.unsound;
   }
 
   pub tells : {a : Answer} → TellsWithin m room s rows rows' a → Tells m s rows rows' a
   tells {a} q = record {
-    answer = λ c d. subst (λ (n : ℕ). a ≡ told_answer m n c) all_lent (q.answer c d);
-    hands = λ c d. subst (λ (n : ℕ). Written (told_rows m n c) rows rows') all_lent (q.hands c d);
+    answer = λ c d. subst (λ (n : ℕ). a ≡ told_answer m n c) (all_lent rows e) (q.answer c d);
+    hands = λ c d. subst (λ (n : ℕ). Written (told_rows m n c) rows rows') (all_lent rows e) (q.hands c d);
     unsound = q.unsound;
   }
 

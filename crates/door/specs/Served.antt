@@ -1,6 +1,6 @@
 -- What a call promises, on any head and lists: what the definitions say where a cache is described, refusal 2 and nothing touched where none is.
 -- Assumes nothing.
-use Rattle.std.specs.Prelude.{ℕ, min, Bool, true, false, cond, List, [], ◌≡◌, length}
+use Rattle.std.specs.Prelude.{ℕ, Bool, true, false, cond, List, [], ◌≡◌}
 use Rattle.head.specs.declared.Answer.{Answer}
 use Rattle.head.specs.declared.Answer.TheVariants.{No}
 use Rattle.head.specs.declared.Refusal.TheVariants.{Unsound, NotUnderstood}

@@ -1,6 +1,9 @@
 -- `door::tell_within` meets its contract.
 -- Assumes nothing.
-use mathlib.Core.Path.{refl}
+use mathlib.Core.Path.{◌≡◌, refl}
+use native.Mathlib.Omega.{arith}
+use Rattle.state.specs.State.{held}
+use Rattle.door.specs.Within.{lent}
 use Rattle.door.specs.Served.{is_teller}
 use Rattle.door.proofs.Deciding.{decided, offered, lent_by, sound_found, none_found, form_known}
 use Rattle.door.proofs.Serving.{tells_within, told_none, told_other}
@@ -18,9 +21,10 @@ decide-decision-requires c = sound_found refl c.inspect.ensures c.if-not-inspect
 
 pub hand_out-requires : goal.hand_out-requires
 hand_out-requires c =
-    offered _ (lent_by ? (decided refl c.decide-decision.ensures)) (sound_found refl c.inspect.ensures c.if-not-inspect.false)
+    offered _ (grind arith) (decided refl c.decide-decision.ensures) (sound_found refl c.inspect.ensures c.if-not-inspect.false)
 
 pub returns-clause-tells : goal.returns-clause-tells
 returns-clause-tells c =
-    tells_within (lent_by ? (decided refl c.decide-decision.ensures)) (sound_found refl c.inspect.ensures c.if-not-inspect.false)
+    let all : c.min.result ≡ lent c.args.room (held c.args.rows.now) = grind arith in
+    tells_within (lent_by all (decided refl c.decide-decision.ensures)) (sound_found refl c.inspect.ensures c.if-not-inspect.false)
     c.hand_out.ensures.handed (form_known is_teller c.is_teller.ensures c.form.ensures c.if-not-is_teller.false)
