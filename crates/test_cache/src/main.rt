@@ -339,7 +339,7 @@ fn act(
             command,
         );
     }
-    let line = line_of(t);
+    let line = Some(line_of(t));
     script_turn::carry_out(
         head,
         codes,

@@ -284,10 +284,9 @@ fn play(
     let mut from: usize = 2;
     while from < n {
         let to = line_end(input, from, n);
+        let line = &input[from..to];
         let done = script_turn::take(
-            input,
-            from,
-            to,
+            line,
             head,
             codes,
             stamps,
