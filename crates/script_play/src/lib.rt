@@ -16,14 +16,9 @@ fn line_end(input: &[u8], from: usize, n: usize) -> usize
     requires { (from ≤ n) × (n ≤ length input.now) }
     ensures { result ≡ line_end input.now from n }
 {
-    let mut at = from;
-    while at < n {
-        if input[at] == b'\n' {
-            return at;
-        }
-        at += 1;
-    }
-    at
+    let rest = &input[from..n];
+    let newline = rest.iter().position(|byte| *byte == b'\n');
+    from + newline.unwrap_or(rest.len())
 }
 
 // Where the next line begins; at the end of the input where nothing can be written any more.
@@ -69,10 +64,9 @@ fn play(
     let mut from: usize = 0;
     while from < n {
         let to = line_end(input, from, n);
+        let line = &input[from..to];
         let done = script_turn::take(
-            input,
-            from,
-            to,
+            line,
             head,
             codes,
             stamps,
