@@ -26,8 +26,7 @@ fn next_line(written: bool, to: usize, n: usize) -> usize
     requires { (to ≤ n) × (n ≤ 32768) }
     ensures { result ≡ next_line written to n }
 {
-    let past = to + 1;
-    if written { past } else { n }
+    if written { to + 1 } else { n }
 }
 
 // What a run leaves beside the lists: the head, and whether every answer was written.
@@ -62,6 +61,7 @@ fn play(
     let mut head = Head::fresh(0, 0, 0);
     let mut written = true;
     let mut from: usize = 0;
+    // It goes on by `next_line`, which docs/PROOFS.md names; a cut into all lines would not stop at an answer that cannot be written.
     while from < n {
         let to = line_end(input, from, n);
         let line = &input[from..to];
@@ -94,6 +94,7 @@ fn read_full(source: &mut impl Read, buffer: &mut [u8]) -> io::Result<usize>
     ensures { IfOk result (λ n. n ≤ length buffer.new) }
 {
     let mut done: usize = 0;
+    // A source may give fewer bytes than asked, and `read_to_end` wants a Vec: 01 asks for fixed memory.
     while done < buffer.len() {
         let n = source.read(&mut buffer[done..])?;
         if n == 0 {
