@@ -1,11 +1,11 @@
--- `decide::decide` meets its contract: one search, then each arm by its command.
+-- `decide::settle` meets its contract: one search, then each arm by its command.
 -- Assumes nothing.
 use Rattle.std.proofs.Common.{refl}
 use Rattle.state.specs.State.{State, seen}
 use Rattle.plan.specs.States.{Sound}
 use Rattle.decide.proofs.Arms.{back_ending, back_readable, front_ending, front_readable, opened, search_reached, small, some_forward, some_loaded, some_weighted, len_arm, capacity_arm, weight_arm, empty_arm, full_arm, front_arm, back_arm, peek_arm, contains_arm, list_arm, list_back_arm, get_arm, pop_arm, pop_front_arm, pop_back_arm, put_arm, weighed_arm, clear_arm, retain_arm, resize_arm, modify_arm, try_arm, get_mut_arm, peek_mut_arm, front_mut_arm, back_mut_arm}
-use Rattle.decide.proofs.decide.Goals as goal
-use Rattle.decide.proofs.decide.Goals.{After-seek-search}
+use Rattle.decide.proofs.settle.Goals as goal
+use Rattle.decide.proofs.settle.Goals.{After-seek-search}
 
 -- the state that was lent, and that it is sound
 abbrev lent : (c : After-seek-search) → State
