@@ -3,7 +3,7 @@
 
 ghost use Rattle.std.specs.Prelude.{◌≡◌, ℕ, ◌+◌, ◌*◌, ◌≤◌, ◌&&◌, List, ◌==◌, nat_lt, nat_le};
 ghost use Rattle.head.specs.Bounds.{most_capacity, plain_kind, capacity_ok};
-ghost use Rattle.model.specs.Desk.{kind_of};
+ghost use Rattle.model.specs.Desk.{kind_of, entry};
 ghost use Rattle.model.specs.Calls.{peek_call, contains_call, get_call, pop_call, get_mut_call, put_call, put_with_weight_call, put_or_modify_call, try_put_or_modify_call, retain_call, resize_call, wrong_weight};
 ghost use Rattle.model.specs.Perform.{verdict};
 ghost use Rattle.table.specs.Sound.{Gapped};
@@ -122,24 +122,31 @@ fn over(old: u64, amount: u64, ceiling: u64) -> bool
     ceiling < old || ceiling - old < amount
 }
 
-// An absent code comes in with an amount.
-fn enter(head: Head, room: usize, code: Code, stamp: u32, amount: u64) -> Result<Decision, Refusal>
-    ensures { settled result ≡ entered head room code.0 stamp amount }
+// The row of a plain cache: it weighs nothing.
+fn plain_row(code: Code, stamp: u32, value: u64) -> Row
+    ensures { result ≡ entry code.0 stamp value 0 }
 {
-    let k = pushing(head);
-    let row = Row {
+    Row {
         code,
         stamp,
-        value: amount,
+        value,
         weight: 0,
-    };
+    }
+}
+
+// An absent code comes in with an amount.
+fn enter(head: Head, room: usize, row: Row) -> Result<Decision, Refusal>
+    requires { row.weight ≡ 0 }
+    ensures { settled result ≡ entered head room row.code.0 row.stamp row.value }
+{
+    let k = pushing(head);
     admit(
         head,
         room,
         k,
         row,
         Answer::Now {
-            value: amount,
+            value: row.value,
             new: true,
             rows: k,
         },
@@ -306,22 +313,14 @@ fn put(
     values: &[u64],
     search: Search,
     room: usize,
-    code: Code,
-    stamp: u32,
-    value: u64,
+    row: Row,
 ) -> Result<Decision, Refusal>
-    requires { Reached search values.now }
-    ensures { Settles (Sought head values.now search code.0) (put_call code.0 stamp value) room (settled result) }
+    requires { Reached search values.now × (row.weight ≡ 0) }
+    ensures { Settles (Sought head values.now search row.code.0) (put_call row.code.0 row.stamp row.value) room (settled result) }
 {
     plain_only(head.kind)?;
     let Search::Found { slot, .. } = search else {
         let k = pushing(head);
-        let row = Row {
-            code,
-            stamp,
-            value,
-            weight: 0,
-        };
         return admit(head, room, k, row, Answer::New { rows: k });
     };
     let old = values[slot.0 as usize];
@@ -330,7 +329,10 @@ fn put(
             value: old,
             rows: 0,
         },
-        plan: Plan::Renew { slot, value },
+        plan: Plan::Renew {
+            slot,
+            value: row.value,
+        },
     })
 }
 
@@ -339,19 +341,17 @@ fn put_or_modify(
     values: &[u64],
     search: Search,
     room: usize,
-    code: Code,
-    stamp: u32,
-    amount: u64,
+    row: Row,
 ) -> Result<Decision, Refusal>
-    requires { Reached search values.now }
-    ensures { Settles (Sought head values.now search code.0) (put_or_modify_call code.0 stamp amount) room (settled result) }
+    requires { Reached search values.now × (row.weight ≡ 0) }
+    ensures { Settles (Sought head values.now search row.code.0) (put_or_modify_call row.code.0 row.stamp row.value) room (settled result) }
 {
     plain_only(head.kind)?;
     let Search::Found { slot, .. } = search else {
-        return enter(head, room, code, stamp, amount);
+        return enter(head, room, row);
     };
     let old = values[slot.0 as usize];
-    Ok(modify(slot, old, amount))
+    Ok(modify(slot, old, row.value))
 }
 
 fn try_put_or_modify(
@@ -359,29 +359,27 @@ fn try_put_or_modify(
     values: &[u64],
     search: Search,
     room: usize,
-    code: Code,
-    stamp: u32,
-    amount: u64,
+    row: Row,
     ceiling: u64,
 ) -> Result<Decision, Refusal>
-    requires { Reached search values.now }
-    ensures { Settles (Sought head values.now search code.0) (try_put_or_modify_call code.0 stamp amount ceiling) room (settled result) }
+    requires { Reached search values.now × (row.weight ≡ 0) }
+    ensures { Settles (Sought head values.now search row.code.0) (try_put_or_modify_call row.code.0 row.stamp row.value ceiling) room (settled result) }
 {
     plain_only(head.kind)?;
     let Search::Found { slot, .. } = search else {
-        if ceiling < amount {
+        if ceiling < row.value {
             return Err(Refusal::OverCeiling);
         }
-        return enter(head, room, code, stamp, amount);
+        return enter(head, room, row);
     };
     let old = values[slot.0 as usize];
-    if over(old, amount, ceiling) {
+    if over(old, row.value, ceiling) {
         return Ok(Decision {
             answer: Answer::No(Refusal::OverCeiling),
             plan: Plan::Raise(slot),
         });
     }
-    Ok(modify(slot, old, amount))
+    Ok(modify(slot, old, row.value))
 }
 
 fn put_with_weight(
@@ -496,7 +494,13 @@ fn settle(view: &View<'_>, room: usize, command: Command) -> Result<Decision, Re
         Command::Pop(_) => Ok(pop(values, search)),
         Command::PopFront => Ok(pop_end(fields, head.front)),
         Command::PopBack => Ok(pop_end(fields, head.back)),
-        Command::Put { code, stamp, value } => put(head, values, search, room, code, stamp, value),
+        Command::Put { code, stamp, value } => put(
+            head,
+            values,
+            search,
+            room,
+            plain_row(code, stamp, value),
+        ),
         Command::PutWithWeight {
             code,
             stamp,
@@ -523,13 +527,20 @@ fn settle(view: &View<'_>, room: usize, command: Command) -> Result<Decision, Re
             code,
             stamp,
             amount,
-        } => put_or_modify(head, values, search, room, code, stamp, amount),
+        } => put_or_modify(head, values, search, room, plain_row(code, stamp, amount)),
         Command::TryPutOrModify {
             code,
             stamp,
             amount,
             ceiling,
-        } => try_put_or_modify(head, values, search, room, code, stamp, amount, ceiling),
+        } => try_put_or_modify(
+            head,
+            values,
+            search,
+            room,
+            plain_row(code, stamp, amount),
+            ceiling,
+        ),
         Command::GetMut { value, .. } => get_mut(head, values, search, value),
         Command::PeekMut { value, .. } => peek_mut(head, values, search, value),
         Command::FrontMut(value) => set_end(head.kind, values, head.front, value),

@@ -14,12 +14,12 @@ returns-in_err-plain_only c =
 pub returns-in_default : goal.returns-in_default
 returns-in_default c =
     let a = c.args in
-    modify_none a.room (plain_asked c.args.head.kind c.plain_only.ensures c.in_ok-plain_only.was) c.in_default.is a.stamp a.amount c.enter.ensures
+    modify_none a.room (plain_asked c.args.head.kind c.plain_only.ensures c.in_ok-plain_only.was) c.in_default.is a.row.stamp a.row.value c.enter.ensures
 
 pub bounds-values-slot : goal.bounds-values-slot
-bounds-values-slot c = found_reached _ c.requires c.in-Found.is
+bounds-values-slot c = found_reached _ c.requires.0 c.in-Found.is
 
 pub returns : goal.returns
 returns c =
     let a = c.args in
-    modify_found a.room (plain_asked c.args.head.kind c.plain_only.ensures c.in_ok-plain_only.was) c.in-Found.is a.stamp a.amount c.modify.ensures
+    modify_found a.room (plain_asked c.args.head.kind c.plain_only.ensures c.in_ok-plain_only.was) c.in-Found.is a.row.stamp a.row.value c.modify.ensures

@@ -42,7 +42,7 @@ pub pop_end-requires-in-PopBack : goal.pop_end-requires-in-PopBack
 pop_end-requires-in-PopBack c = back_ending (sound (goal.at.pop_end-requires-in-PopBack c).After-seek-search)
 
 pub put-requires : goal.put-requires
-put-requires c = search_reached (sound (goal.at.put-requires c).After-seek-search) c.args.command c.seek-search.ensures
+put-requires c = (search_reached (sound (goal.at.put-requires c).After-seek-search) c.args.command c.seek-search.ensures, rw c.plain_row.ensures refl)
 
 pub put_with_weight-requires : goal.put_with_weight-requires
 put_with_weight-requires c = some_loaded (sound (goal.at.put_with_weight-requires c).After-seek-search) c.in-PutWithWeight.is c.seek-search.ensures
@@ -54,10 +54,10 @@ pub resize-requires : goal.resize-requires
 resize-requires c = some_weighted (sound (goal.at.resize-requires c).After-seek-search)
 
 pub put_or_modify-requires : goal.put_or_modify-requires
-put_or_modify-requires c = search_reached (sound (goal.at.put_or_modify-requires c).After-seek-search) c.args.command c.seek-search.ensures
+put_or_modify-requires c = (search_reached (sound (goal.at.put_or_modify-requires c).After-seek-search) c.args.command c.seek-search.ensures, rw c.plain_row-in-PutOrModify.ensures refl)
 
 pub try_put_or_modify-requires : goal.try_put_or_modify-requires
-try_put_or_modify-requires c = search_reached (sound (goal.at.try_put_or_modify-requires c).After-seek-search) c.args.command c.seek-search.ensures
+try_put_or_modify-requires c = (search_reached (sound (goal.at.try_put_or_modify-requires c).After-seek-search) c.args.command c.seek-search.ensures, rw c.plain_row-in-TryPutOrModify.ensures refl)
 
 pub get_mut-requires : goal.get_mut-requires
 get_mut-requires c = search_reached (sound (goal.at.get_mut-requires c).After-seek-search) c.args.command c.seek-search.ensures
@@ -117,7 +117,7 @@ pub returns-in-PopBack : goal.returns-in-PopBack
 returns-in-PopBack c = pop_back_arm {s = lent (goal.at.returns-in-PopBack c).After-seek-search} c.in-PopBack.is c.pop_end-in-PopBack.ensures
 
 pub returns-in-Put : goal.returns-in-Put
-returns-in-Put c = put_arm {s = lent (goal.at.returns-in-Put c).After-seek-search} c.seek-search.ensures c.in-Put.is c.put.ensures
+returns-in-Put c = put_arm {s = lent (goal.at.returns-in-Put c).After-seek-search} c.seek-search.ensures c.in-Put.is (rw c.plain_row.ensures at c.put.ensures)
 
 pub returns-in-PutWithWeight : goal.returns-in-PutWithWeight
 returns-in-PutWithWeight c = weighed_arm {s = lent (goal.at.returns-in-PutWithWeight c).After-seek-search} c.seek-search.ensures c.in-PutWithWeight.is c.put_with_weight.ensures
@@ -132,10 +132,10 @@ pub returns-in-Resize : goal.returns-in-Resize
 returns-in-Resize c = resize_arm {s = lent (goal.at.returns-in-Resize c).After-seek-search} c.in-Resize.is c.resize.ensures
 
 pub returns-in-PutOrModify : goal.returns-in-PutOrModify
-returns-in-PutOrModify c = modify_arm {s = lent (goal.at.returns-in-PutOrModify c).After-seek-search} c.seek-search.ensures c.in-PutOrModify.is c.put_or_modify.ensures
+returns-in-PutOrModify c = modify_arm {s = lent (goal.at.returns-in-PutOrModify c).After-seek-search} c.seek-search.ensures c.in-PutOrModify.is (rw c.plain_row-in-PutOrModify.ensures at c.put_or_modify.ensures)
 
 pub returns-in-TryPutOrModify : goal.returns-in-TryPutOrModify
-returns-in-TryPutOrModify c = try_arm {s = lent (goal.at.returns-in-TryPutOrModify c).After-seek-search} c.seek-search.ensures c.in-TryPutOrModify.is c.try_put_or_modify.ensures
+returns-in-TryPutOrModify c = try_arm {s = lent (goal.at.returns-in-TryPutOrModify c).After-seek-search} c.seek-search.ensures c.in-TryPutOrModify.is (rw c.plain_row-in-TryPutOrModify.ensures at c.try_put_or_modify.ensures)
 
 pub returns-in-GetMut : goal.returns-in-GetMut
 returns-in-GetMut c = get_mut_arm {s = lent (goal.at.returns-in-GetMut c).After-seek-search} c.seek-search.ensures c.in-GetMut.is c.get_mut.ensures
