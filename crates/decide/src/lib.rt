@@ -173,7 +173,7 @@ fn is_full(head: Head) -> bool
     requires { head.live + head.weight ≤ most_capacity }
     ensures { result ≡ (head.live + head.weight == head.capacity) }
 {
-    head.live as u64 + head.weight == head.capacity
+    u64::from(head.live) + head.weight == head.capacity
 }
 
 // `front` and `back`, by the slot at that end: 01 asks for the mark NONE where there is none.
@@ -474,7 +474,7 @@ fn settle(view: &View<'_>, room: usize, command: Command) -> Result<Decision, Re
     ensures { Settles (Means (seen view.now)) (verdict command) room (settled result) }
 {
     let head = view.head;
-    let live = head.live as u64;
+    let live = u64::from(head.live);
     let fields = &view.fields;
     let values = view.fields.values;
     let search = seek(view, command);

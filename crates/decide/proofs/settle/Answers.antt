@@ -72,7 +72,7 @@ pub set_end-requires-in-BackMut : goal.set_end-requires-in-BackMut
 set_end-requires-in-BackMut c = back_readable (sound (goal.at.set_end-requires-in-BackMut c).After-seek-search)
 
 pub returns-in-Len : goal.returns-in-Len
-returns-in-Len c = len_arm {s = lent (goal.at.returns-in-Len c).After-seek-search} c.in-Len.is c.say.ensures
+returns-in-Len c = len_arm {s = lent (goal.at.returns-in-Len c).After-seek-search} c.in-Len.is (rw c.from-live.ensures at c.say.ensures)
 
 pub returns-in-Capacity : goal.returns-in-Capacity
 returns-in-Capacity c = capacity_arm {s = lent (goal.at.returns-in-Capacity c).After-seek-search} c.in-Capacity.is c.say-in-Capacity.ensures
@@ -81,7 +81,7 @@ pub returns-in-Weight : goal.returns-in-Weight
 returns-in-Weight c = weight_arm {s = lent (goal.at.returns-in-Weight c).After-seek-search} c.in-Weight.is c.say-in-Weight.ensures
 
 pub returns-in-IsEmpty : goal.returns-in-IsEmpty
-returns-in-IsEmpty c = empty_arm {s = lent (goal.at.returns-in-IsEmpty c).After-seek-search} c.in-IsEmpty.is c.say-in-IsEmpty.ensures
+returns-in-IsEmpty c = empty_arm {s = lent (goal.at.returns-in-IsEmpty c).After-seek-search} c.in-IsEmpty.is (rw c.from-live.ensures at c.say-in-IsEmpty.ensures)
 
 pub returns-in-IsFull : goal.returns-in-IsFull
 returns-in-IsFull c = full_arm {s = lent (goal.at.returns-in-IsFull c).After-seek-search} c.in-IsFull.is c.is_full.ensures c.say-in-IsFull.ensures
@@ -123,7 +123,7 @@ pub returns-in-PutWithWeight : goal.returns-in-PutWithWeight
 returns-in-PutWithWeight c = weighed_arm {s = lent (goal.at.returns-in-PutWithWeight c).After-seek-search} c.seek-search.ensures c.in-PutWithWeight.is c.put_with_weight.ensures
 
 pub returns-in-Clear : goal.returns-in-Clear
-returns-in-Clear c = clear_arm {s = lent (goal.at.returns-in-Clear c).After-seek-search} c.in-Clear.is refl
+returns-in-Clear c = clear_arm {s = lent (goal.at.returns-in-Clear c).After-seek-search} c.in-Clear.is (rw c.from-live.ensures refl)
 
 pub returns-in-Retain : goal.returns-in-Retain
 returns-in-Retain c = retain_arm {s = lent (goal.at.returns-in-Retain c).After-seek-search} c.in-Retain.is c.retain.ensures
