@@ -3,11 +3,12 @@
 #![tactic(auto)]
 
 ghost use Rattle.std.specs.Prelude.{suc, ◌*◌, ◌<◌, ◌≤◌, length};
-ghost use Rattle.store.specs.State.{fields};
+ghost use Rattle.state.specs.State.{held};
 ghost use Rattle.door.specs.Served.{shortest};
 ghost use Rattle.script_write.specs.Lines.{most_line};
 
 use head::Head;
+use state::{Fields, Links, State, View};
 use std::alloc::{AllocError, Global};
 use std::io;
 use std::io::Read;
@@ -51,28 +52,22 @@ fn at<T: Copy + Default + Drop>(list: &[T], i: u32) -> T {
 }
 
 // The state line: the weight, `top`, the entries front to back, each behind its slot, and the stack, bottom first.
-fn state_line(
-    alloc: Global,
-    head: Head,
-    codes: &[u64],
-    stamps: &[u32],
-    values: &[u64],
-    weights: &[u64],
-    next: &[u32],
-    stack: &[u32],
-) -> Result<String, AllocError> {
+fn state_line(alloc: Global, view: &View<'_>) -> Result<String, AllocError> {
+    let depth = view.head.depth.0;
+    let head = view.head;
+    let fields = &view.fields;
     let mut line = format!(in alloc; "= {} {} {}", head.weight, head.top.0, head.live)?;
     let mut slot = head.front.0;
     for _ in 0..head.live {
-        let code = at(codes, slot);
-        let stamp = at(stamps, slot);
-        let value = at(values, slot);
-        let weight = at(weights, slot);
+        let code = at(fields.codes, slot);
+        let stamp = at(fields.stamps, slot);
+        let value = at(fields.values, slot);
+        let weight = at(fields.weights, slot);
         write!(line, " {slot} {code} {stamp} {value} {weight}")?;
-        slot = at(next, slot);
+        slot = at(view.links.next, slot);
     }
-    write!(line, " {}", head.depth.0)?;
-    for slot in stack.iter().take(head.depth.0 as usize) {
+    write!(line, " {depth}")?;
+    for slot in view.links.stack.iter().take(depth as usize) {
         write!(line, " {slot}")?;
     }
     writeln!(line)?;
@@ -108,52 +103,24 @@ fn next_line(text: &[u8]) -> &[u8]
     &[]
 }
 
-// Carries out the script lines of the input, one after another, and counts. Before the first opening the head describes no cache.
+// Carries out the script lines of the input, one after another, and counts.
 fn play(
     alloc: Global,
     input: &[u8],
-    codes: &mut [u64],
-    stamps: &mut [u32],
-    values: &mut [u64],
-    weights: &mut [u64],
-    next: &mut [u32],
-    prev: &mut [u32],
-    stack: &mut [u32],
-    cells: &mut [u32],
-    row_codes: &mut [u64],
-    row_stamps: &mut [u32],
-    row_values: &mut [u64],
-    row_weights: &mut [u64],
+    state: &mut State<'_>,
+    rows: &mut Fields<'_>,
     out: &mut [u8],
 ) -> Result<Tally, AllocError>
-    requires { suc (shortest (fields row_codes.old row_stamps.old row_values.old row_weights.old)) * most_line ≤ length out.old }
+    requires { suc (shortest (held rows.old)) * most_line ≤ length out.old }
 {
-    let mut head = Head::fresh(0, 0, 0);
     let mut tally = Tally::default();
     // Behind the first `> `.
     let mut rest = input.get(2..).unwrap_or(&[]);
     while !rest.is_empty() {
         let (line, recorded) = first_line(rest);
-        let done = script_turn::take(
-            line,
-            head,
-            codes,
-            stamps,
-            values,
-            weights,
-            next,
-            prev,
-            stack,
-            cells,
-            row_codes,
-            row_stamps,
-            row_values,
-            row_weights,
-            out,
-        );
-        head = done.head;
-        let state = state_line(alloc, head, codes, stamps, values, weights, next, stack)?;
-        let agreed = agrees(recorded, &out[..done.size], state.as_str());
+        let done = script_turn::take(line, state, rows, out);
+        let after = state_line(alloc, &state.view())?;
+        let agreed = agrees(recorded, &out[..done.size], after.as_str());
         tally.count(line, recorded, agreed);
         rest = next_line(rest);
     }
@@ -163,37 +130,31 @@ fn play(
 fn main(rt: HostRuntime) -> io::Result<()> {
     let mut input = Vec::new(rt.alloc());
     let n = rt.stdin().take(MOST).read_to_end(&mut input)?;
-    let mut codes = [0u64; 4096];
-    let mut stamps = [0u32; 4096];
-    let mut values = [0u64; 4096];
-    let mut weights = [0u64; 4096];
-    let mut next = [Head::NONE; 4096];
-    let mut prev = [Head::NONE; 4096];
-    let mut stack = [Head::NONE; 4096];
-    let mut cells = [Head::NONE; 8192];
-    let mut row_codes = [0u64; 256];
-    let mut row_stamps = [0u32; 256];
-    let mut row_values = [0u64; 256];
-    let mut row_weights = [0u64; 256];
+    // Before the first opening the head describes no cache.
+    let mut state = State {
+        head: Head::fresh(0, 0, 0),
+        fields: Fields {
+            codes: &mut [0; 4096],
+            stamps: &mut [0; 4096],
+            values: &mut [0; 4096],
+            weights: &mut [0; 4096],
+        },
+        links: Links {
+            next: &mut [Head::NONE; 4096],
+            prev: &mut [Head::NONE; 4096],
+            stack: &mut [Head::NONE; 4096],
+        },
+        cells: &mut [Head::NONE; 8192],
+    };
+    let mut rows = Fields {
+        codes: &mut [0; 256],
+        stamps: &mut [0; 256],
+        values: &mut [0; 256],
+        weights: &mut [0; 256],
+    };
     // The lines of 256 rows, and a closing line.
     let mut out = [0u8; 33024];
-    let tally = play(
-        rt.alloc(),
-        &input,
-        &mut codes,
-        &mut stamps,
-        &mut values,
-        &mut weights,
-        &mut next,
-        &mut prev,
-        &mut stack,
-        &mut cells,
-        &mut row_codes,
-        &mut row_stamps,
-        &mut row_values,
-        &mut row_weights,
-        &mut out,
-    )?;
+    let tally = play(rt.alloc(), &input, &mut state, &mut rows, &mut out)?;
     println!(rt; "{n} bytes read")?;
     println!(rt; "{} calls agree", tally.calls)?;
     println!(rt; "{} openings agree", tally.openings)?;
