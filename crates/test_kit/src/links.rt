@@ -45,53 +45,60 @@ impl Links {
     // A slot comes to the front.
     pub fn push(&mut self) {
         if self.is_sound() && self.head.live < self.head.slots {
-            let taken = list::push_front(
-                self.head,
-                &mut self.next,
-                &mut self.prev,
-                &mut self.stack,
-            );
-            self.head = taken.head;
+            let mut links = state::Links {
+                next: &mut self.next,
+                prev: &mut self.prev,
+                stack: &mut self.stack,
+            };
+            self.head = list::push_front(self.head, &mut links).head;
         }
     }
 
     // A slot leaves, and comes on the stack.
     pub fn remove(&mut self, slot: Slot) {
         if self.holds(slot) {
-            self.head = list::remove(
-                self.head,
-                &mut self.next,
-                &mut self.prev,
-                &mut self.stack,
-                slot,
-            );
+            let mut links = state::Links {
+                next: &mut self.next,
+                prev: &mut self.prev,
+                stack: &mut self.stack,
+            };
+            self.head = list::remove(self.head, &mut links, slot);
         }
     }
 
     // A slot of the list comes to the front.
     pub fn raise(&mut self, slot: Slot) {
         if self.holds(slot) {
-            self.head = list::move_front(self.head, &mut self.next, &mut self.prev, slot);
+            let mut links = state::Links {
+                next: &mut self.next,
+                prev: &mut self.prev,
+                stack: &mut self.stack,
+            };
+            self.head = list::move_front(self.head, &mut links, slot);
         }
     }
 
     // So many slots leave by the back.
     pub fn evict(&mut self, count: u32) {
         if self.is_sound() && count <= self.head.live {
-            self.head = list::evict(
-                self.head,
-                &mut self.next,
-                &mut self.prev,
-                &mut self.stack,
-                count,
-            );
+            let mut links = state::Links {
+                next: &mut self.next,
+                prev: &mut self.prev,
+                stack: &mut self.stack,
+            };
+            self.head = list::evict(self.head, &mut links, count);
         }
     }
 
     // Every slot leaves.
     pub fn clear(&mut self) {
         if self.is_sound() {
-            self.head = list::clear(self.head, &mut self.next, &mut self.prev, &mut self.stack);
+            let mut links = state::Links {
+                next: &mut self.next,
+                prev: &mut self.prev,
+                stack: &mut self.stack,
+            };
+            self.head = list::clear(self.head, &mut links);
         }
     }
 }
