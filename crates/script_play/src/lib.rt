@@ -16,14 +16,9 @@ fn line_end(input: &[u8], from: usize, n: usize) -> usize
     requires { (from ≤ n) × (n ≤ length input.now) }
     ensures { result ≡ line_end input.now from n }
 {
-    let mut at = from;
-    while at < n {
-        if input[at] == b'\n' {
-            return at;
-        }
-        at += 1;
-    }
-    at
+    let rest = &input[from..n];
+    let newline = rest.iter().position(|byte| *byte == b'\n');
+    from + newline.unwrap_or(rest.len())
 }
 
 // Where the next line begins; at the end of the input where nothing can be written any more.
@@ -31,8 +26,7 @@ fn next_line(written: bool, to: usize, n: usize) -> usize
     requires { (to ≤ n) × (n ≤ 32768) }
     ensures { result ≡ next_line written to n }
 {
-    let past = to + 1;
-    if written { past } else { n }
+    if written { to + 1 } else { n }
 }
 
 // What a run leaves beside the lists: the head, and whether every answer was written.
@@ -67,12 +61,12 @@ fn play(
     let mut head = Head::fresh(0, 0, 0);
     let mut written = true;
     let mut from: usize = 0;
+    // It goes on by `next_line`, which docs/PROOFS.md names; a cut into all lines would not stop at an answer that cannot be written.
     while from < n {
         let to = line_end(input, from, n);
+        let line = &input[from..to];
         let done = script_turn::take(
-            input,
-            from,
-            to,
+            line,
             head,
             codes,
             stamps,
@@ -100,6 +94,7 @@ fn read_full(source: &mut impl Read, buffer: &mut [u8]) -> io::Result<usize>
     ensures { IfOk result (λ n. n ≤ length buffer.new) }
 {
     let mut done: usize = 0;
+    // A source may give fewer bytes than asked, and `read_to_end` wants a Vec: 01 asks for fixed memory.
     while done < buffer.len() {
         let n = source.read(&mut buffer[done..])?;
         if n == 0 {

@@ -3,7 +3,7 @@
 use mathlib.Core.Path.{sym}
 use lib.Seq.{length-take-le}
 use Rattle.script_play.proofs.Room.{text_fits}
-use Rattle.script_play.proofs.Playing.{going_first, going_cuts, going_takes, going_further, going_less, going_on, going_last}
+use Rattle.script_play.proofs.Playing.{going_first, going_cuts, going_inside, going_further, going_less, going_on, going_last}
 use Rattle.script_play.proofs.play.Goals as goal
 
 pub loop-from-init : goal.loop-from-init
@@ -12,8 +12,11 @@ loop-from-init g c = going_first c.requires c.fresh-head.ensures
 pub line_end-to-requires : goal.line_end-to-requires
 line_end-to-requires g c = going_cuts c.loop-from.invariant c.loop-from-test.true
 
+pub slice_bounds-line-end : goal.slice_bounds-line-end
+slice_bounds-line-end g c = going_inside c.loop-from.invariant c.loop-from-test.true c.line_end-to.ensures
+
 pub take-done-requires : goal.take-done-requires
-take-done-requires g c = going_takes c.loop-from.invariant c.loop-from-test.true c.line_end-to.ensures
+take-done-requires g c = record { room = c.loop-from.invariant.room }
 
 pub slice_bounds-write_all-end : goal.slice_bounds-write_all-end
 slice_bounds-write_all-end g c = text_fits c.take-done.ensures.text
