@@ -7,14 +7,14 @@ use mathlib.Core.Path.{◌≡◌, refl, ap, ◌∙◌}
 use native.Mathlib.Omega.{arith}
 use lib.ListN.{length, take, drop, length-drop}
 use lib.Seq.{slice}
-use Rattle.head.specs.declared.Head.{Head}
+use Rattle.head.specs.Fields.{Fields}
+use Rattle.plan.specs.States.{State}
 use Rattle.head.specs.declared.Answer.{Answer}
-use Rattle.head.specs.Fresh.{fresh_head}
 use Rattle.door.specs.Served.{shortest}
 use Rattle.script_write.specs.Lines.{most_line}
 use Rattle.script_digits.proofs.Laying.{laid_size}
 use Rattle.script_play.specs.Cutting.{lines_of, line_end, next_line}
-use Rattle.script_play.specs.Playing.{Plays, Lent, lent, Carried, InTurn, none, more, Played}
+use Rattle.script_play.specs.Playing.{Plays, Lent, handed, Carried, InTurn, none, more, Played}
 use Rattle.script_play.proofs.Cut.{part_is, line_start, ends_inside, line_here, none_left}
 use Rattle.script_play.proofs.Room.{room_stays}
 
@@ -39,17 +39,15 @@ pub record Going (input : List ℕ) (n : ℕ) (x y : Lent) (from : ℕ) (written
   pub place : written ≡ true → from ≡ line_start input n line
   pub stopped : written ≡ false → n ≤ from
 
-pub going_first : {input : List ℕ} {n : ℕ} {h : Head} {codes stamps values weights nexts prevs stack cells row_codes rowStamps rowValues rowWeights out : List ℕ}
-    → Plays input n (lent h codes stamps values weights nexts prevs stack cells row_codes rowStamps rowValues rowWeights out).rows out
-    → h ≡ fresh_head 0 0 0
-    → Going input n (lent (fresh_head 0 0 0) codes stamps values weights nexts prevs stack cells row_codes rowStamps rowValues rowWeights out) (lent h codes stamps values weights nexts prevs stack cells row_codes rowStamps rowValues rowWeights out) 0 true
-going_first p e = record {
+pub going_first : {input : List ℕ} {n : ℕ} {s : State} {rows : Fields} {out : List ℕ} → Plays input n rows out
+    → Going input n (handed s rows out) (handed s rows out) 0 true
+going_first p = record {
   inside = p.inside;
   short = p.short;
   room = p.room;
   line = 0;
   answers = [];
-  turns = rw e none;
+  turns = none;
   place = λ z. refl;
   stopped = λ z. absurd (true≢false z);
 }
