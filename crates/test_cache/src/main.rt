@@ -1,13 +1,20 @@
 // Plays the turns of crate `test_turns` at the doors, and writes a line for each: the call, what it said and handed out, and how the cache stands then.
 #![tactic(auto)]
 
-use door::Said;
 use head::{Answer, Code, Command, Form, Head, Row};
 use script_read::Line;
+use state::{Fields, FieldsView, Links, LinksView, State, View};
 use std::{fmt, io};
 use test_turns::{List, Request, Turn};
 
 // ---- the line
+
+const BLANK: Row = Row {
+    code: Code(0),
+    stamp: 0,
+    value: 0,
+    weight: 0,
+};
 
 // An entry as it is told.
 #[derive(Clone, Copy)]
@@ -45,46 +52,26 @@ impl fmt::Display for Told {
     }
 }
 
-// What stands at a place, 0 past the end.
-fn at<T: Copy + Default + Drop>(list: &[T], i: u32) -> T {
-    match list.get(i as usize) {
-        Some(x) => *x,
-        None => T::default(),
+// The entry, or the row, at a place of the four lists; zeros past their end.
+fn entry_at(fields: &FieldsView<'_>, place: u32) -> Entry {
+    if (place as usize) < fields.room() {
+        Entry(fields.read(place))
+    } else {
+        Entry(BLANK)
     }
-}
-
-// The entry at a place of four lists.
-fn entry_at(codes: &[u64], stamps: &[u32], values: &[u64], weights: &[u64], i: u32) -> Entry {
-    Entry(Row {
-        code: Code(at(codes, i)),
-        stamp: at(stamps, i),
-        value: at(values, i),
-        weight: at(weights, i),
-    })
 }
 
 // Weight, top, live, the entries front to back, each behind its slot, the depth of the stack and the slots on it, bottom first.
-fn print_state(
-    rt: &impl Print,
-    head: Head,
-    codes: &[u64],
-    stamps: &[u32],
-    values: &[u64],
-    weights: &[u64],
-    next: &[u32],
-    stack: &[u32],
-) -> io::Result<()> {
+fn print_state(rt: &impl Print, view: View<'_>) -> io::Result<()> {
+    let head = view.head;
     print!(rt; " = {} {} {}", head.weight, head.top.0, head.live)?;
     let mut slot = head.front.0;
     for _ in 0..head.live {
-        print!(rt;
-            " {slot} {}",
-            entry_at(codes, stamps, values, weights, slot)
-        )?;
-        slot = at(next, slot);
+        print!(rt; " {slot} {}", entry_at(&view.fields, slot))?;
+        slot = view.links.next.get(slot as usize).copied().unwrap_or(0);
     }
     print!(rt; " {}", head.depth.0)?;
-    for slot in stack.iter().take(head.depth.0 as usize) {
+    for slot in view.links.stack.iter().take(head.depth.0 as usize) {
         print!(rt; " {slot}")?;
     }
     println!(rt)
@@ -109,121 +96,20 @@ fn line_of(request: Request) -> Line {
 }
 
 // Makes a call as the public call of its name does: what reads is lent the lists for reading, and only what hands out rows is lent row lists.
-fn by_form(
-    head: Head,
-    codes: &mut [u64],
-    stamps: &mut [u32],
-    values: &mut [u64],
-    weights: &mut [u64],
-    next: &mut [u32],
-    prev: &mut [u32],
-    stack: &mut [u32],
-    cells: &mut [u32],
-    row_codes: &mut [u64],
-    row_stamps: &mut [u32],
-    row_values: &mut [u64],
-    row_weights: &mut [u64],
-    command: Command,
-) -> Said {
-    let form = command.form();
-    match form {
-        Form::Reading => {
-            let answer = door::read(
-                head, codes, stamps, values, weights, next, prev, stack, cells, command,
-            );
-            Said { head, answer }
-        }
-        Form::Listing => {
-            let answer = door::tell(
-                head,
-                codes,
-                stamps,
-                values,
-                weights,
-                next,
-                prev,
-                stack,
-                cells,
-                row_codes,
-                row_stamps,
-                row_values,
-                row_weights,
-                command,
-            );
-            Said { head, answer }
-        }
-        Form::Acting => door::serve(
-            head, codes, stamps, values, weights, next, prev, stack, cells, command,
-        ),
-        Form::Handing => door::call(
-            head,
-            codes,
-            stamps,
-            values,
-            weights,
-            next,
-            prev,
-            stack,
-            cells,
-            row_codes,
-            row_stamps,
-            row_values,
-            row_weights,
-            command,
-        ),
+fn by_form(state: &mut State<'_>, rows: &mut Fields<'_>, command: Command) -> Answer {
+    match command.form() {
+        Form::Reading => door::read(&state.view(), command),
+        Form::Listing => door::tell(&state.view(), rows, command),
+        Form::Acting => door::serve(state, command),
+        Form::Handing => door::call(state, rows, command),
     }
 }
 
 // Plays a turn by the call's form, or, an opening and what is asked at the door, as a line of the script.
-fn act(
-    t: Turn,
-    head: Head,
-    codes: &mut [u64],
-    stamps: &mut [u32],
-    values: &mut [u64],
-    weights: &mut [u64],
-    next: &mut [u32],
-    prev: &mut [u32],
-    stack: &mut [u32],
-    cells: &mut [u32],
-    row_codes: &mut [u64],
-    row_stamps: &mut [u32],
-    row_values: &mut [u64],
-    row_weights: &mut [u64],
-) -> Said {
+fn act(t: Turn, state: &mut State<'_>, rows: &mut Fields<'_>) -> Answer {
     match t.request {
-        Request::Call(command) if !t.door => by_form(
-            head,
-            codes,
-            stamps,
-            values,
-            weights,
-            next,
-            prev,
-            stack,
-            cells,
-            row_codes,
-            row_stamps,
-            row_values,
-            row_weights,
-            command,
-        ),
-        request => script_turn::carry_out(
-            head,
-            codes,
-            stamps,
-            values,
-            weights,
-            next,
-            prev,
-            stack,
-            cells,
-            row_codes,
-            row_stamps,
-            row_values,
-            row_weights,
-            Some(line_of(request)),
-        ),
+        Request::Call(command) if !t.door => by_form(state, rows, command),
+        request => script_turn::carry_out(state, rows, Some(line_of(request))),
     }
 }
 
@@ -252,34 +138,53 @@ fn main(rt: HostRuntime) -> io::Result<()> {
     for (i, turn) in turns.iter().enumerate() {
         let t = *turn;
         let hurt = t.harmed(head);
-        let said = act(
-            t,
-            hurt,
-            lent(t, List::Codes, &mut codes),
-            lent(t, List::Stamps, &mut stamps),
-            lent(t, List::Values, &mut values),
-            lent(t, List::Weights, &mut weights),
-            lent(t, List::Next, &mut next),
-            lent(t, List::Prev, &mut prev),
-            lent(t, List::Stack, &mut stack),
-            lent(t, List::Cells, &mut cells),
-            lent(t, List::RowCodes, &mut row_codes),
-            lent(t, List::RowStamps, &mut row_stamps),
-            lent(t, List::RowValues, &mut row_values),
-            lent(t, List::RowWeights, &mut row_weights),
-        );
+        let mut state = State {
+            head: hurt,
+            fields: Fields {
+                codes: lent(t, List::Codes, &mut codes),
+                stamps: lent(t, List::Stamps, &mut stamps),
+                values: lent(t, List::Values, &mut values),
+                weights: lent(t, List::Weights, &mut weights),
+            },
+            links: Links {
+                next: lent(t, List::Next, &mut next),
+                prev: lent(t, List::Prev, &mut prev),
+                stack: lent(t, List::Stack, &mut stack),
+            },
+            cells: lent(t, List::Cells, &mut cells),
+        };
+        let mut rows = Fields {
+            codes: lent(t, List::RowCodes, &mut row_codes),
+            stamps: lent(t, List::RowStamps, &mut row_stamps),
+            values: lent(t, List::RowValues, &mut row_values),
+            weights: lent(t, List::RowWeights, &mut row_weights),
+        };
+        let answer = act(t, &mut state, &mut rows);
         // A damaged head that came back as it was lent is mended.
-        if said.head != hurt {
-            head = said.head;
+        if state.head != hurt {
+            head = state.head;
         }
-        print!(rt; "{i} {t} > {}", Told(said.answer))?;
-        for k in 0..said.answer.rows() {
-            print!(rt;
-                " row {}",
-                entry_at(&row_codes, &row_stamps, &row_values, &row_weights, k)
-            )?;
+        print!(rt; "{i} {t} > {}", Told(answer))?;
+        for place in 0..answer.rows() {
+            print!(rt; " row {}", entry_at(&rows.view(), place))?;
         }
-        print_state(&rt, head, &codes, &stamps, &values, &weights, &next, &stack)?;
+        // The whole lists, whatever the turn lent of them.
+        let whole = View {
+            head,
+            fields: FieldsView {
+                codes: &codes,
+                stamps: &stamps,
+                values: &values,
+                weights: &weights,
+            },
+            links: LinksView {
+                next: &next,
+                prev: &prev,
+                stack: &stack,
+            },
+            cells: &cells,
+        };
+        print_state(&rt, whole)?;
     }
     Ok(())
 }

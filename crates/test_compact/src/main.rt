@@ -3,9 +3,11 @@
 #![tactic(auto)]
 
 ghost use Rattle.std.specs.Prelude.{◌≡◌, true};
+ghost use Rattle.state.specs.State.{seen};
 ghost use Rattle.compact.specs.Compact.{Resizable};
 
 use head::{Code, Head, Row, Slot};
+use state::{State, View};
 use std::alloc::{AllocError, Global};
 use std::cmp::Ordering;
 use std::io;
@@ -123,36 +125,53 @@ impl Lists {
         self.wipe();
     }
 
-    // Whether the capacity can be set.
-    fn is_ready(&self, capacity: u64) -> bool
-        ensures { result ≡ true → Resizable self.now.links.head self.now.links.next self.now.links.prev self.now.links.stack (record { codes = self.now.fields.codes; stamps = self.now.fields.stamps; values = self.now.fields.values; weights = self.now.fields.weights }) capacity }
-    {
-        let links = &self.links;
-        let head = links.head;
-        if capacity < u64::from(head.live) {
-            return false;
+    // Head and lists, lent to be changed. There is no table.
+    fn lent(&mut self) -> State<'_> {
+        let Links {
+            head,
+            next,
+            prev,
+            stack,
+        } = &mut self.links;
+        let Fields {
+            codes,
+            stamps,
+            values,
+            weights,
+        } = &mut self.fields;
+        State {
+            head: *head,
+            fields: state::Fields {
+                codes,
+                stamps,
+                values,
+                weights,
+            },
+            links: state::Links { next, prev, stack },
+            cells: &mut [],
         }
-        list::inspect_links(head, &links.next, &links.prev, &links.stack)
     }
 
     // Sets the capacity. Where it cannot be set, nothing is done.
     fn resize(&mut self, capacity: u64) {
-        if self.is_ready(capacity) {
-            let links = &mut self.links;
-            let fields = &mut self.fields;
-            links.head = compact::resize(
-                links.head,
-                &mut links.next,
-                &mut links.prev,
-                &mut links.stack,
-                &mut fields.codes,
-                &mut fields.stamps,
-                &mut fields.values,
-                &mut fields.weights,
-                capacity,
-            );
+        let mut state = self.lent();
+        if is_ready(&state.view(), capacity) {
+            compact::resize(&mut state, capacity);
+            self.links.head = state.head;
         }
     }
+}
+
+// Whether the capacity can be set.
+fn is_ready(view: &View<'_>, capacity: u64) -> bool
+    ensures { result ≡ true → Resizable view.now.head (seen view.now).nexts (seen view.now).prevs (seen view.now).stack (seen view.now).fields capacity }
+{
+    let head = view.head;
+    if capacity < u64::from(head.live) || view.fields.room() < head.slots as usize {
+        return false;
+    }
+    let links = view.links;
+    list::inspect_links(head, links.next, links.prev, links.stack)
 }
 
 // ---- the turns

@@ -1,7 +1,7 @@
 // The damages to a state, and what inspection and the plain check say of each.
-use crate::state::{List, MOST_CAPACITY, NONE, State, UNUSED};
+use crate::sheet::{List, MOST_CAPACITY, NONE, State, UNUSED};
 use std::fmt;
-use test_kit::{Count, Xorshift};
+use test_kit::{Count, shaken};
 
 // What a number becomes.
 #[derive(Clone, Copy)]
@@ -102,17 +102,17 @@ impl fmt::Display for Tally {
     }
 }
 
-// A run over states: where the draws stand, and the counts.
+// A run over states: the draw to go on from, and the counts.
 #[derive(Drop)]
 pub struct Trial {
-    draws: Xorshift,
+    seed: u64,
     pub tally: Tally,
 }
 
 impl Trial {
     pub fn new() -> Trial {
         Trial {
-            draws: Xorshift(88172645463325252),
+            seed: 88172645463325252,
             tally: Tally::default(),
         }
     }
@@ -173,7 +173,8 @@ impl Trial {
 
     // Two needed numbers, drawn at random: swapped, or one more and one less, or each changed in a way of its own.
     fn double(&mut self, state: &State) {
-        let seed = self.draws.next();
+        let seed = shaken(self.seed);
+        self.seed = seed;
         let i = drawn_place(state, seed >> 4);
         let j = drawn_place(state, seed >> 24);
         if i == j {

@@ -3,12 +3,12 @@
 
 mod damage;
 mod samples;
+mod sheet;
 mod sound;
-mod state;
 
 use damage::Trial;
 use samples::SAMPLES;
-use state::{State, Tail};
+use sheet::{State, Tail};
 use std::io;
 
 // Runs the first so many states, each with two kinds of tail, with so many draws of two numbers, and writes how it went.

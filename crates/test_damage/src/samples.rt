@@ -1,5 +1,5 @@
 // Sixteen sound states: plain and weighed, empty, full, with holes and shrunk, at 1, 2, 4 and 16 slots.
-use crate::state::{MOST_CAPACITY, NONE, UNUSED};
+use crate::sheet::{MOST_CAPACITY, NONE, UNUSED};
 use head::{Head, Place, Slot};
 
 // A sound state: its head, and of each list what its slots need.

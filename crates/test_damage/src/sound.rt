@@ -1,5 +1,5 @@
 // The plain check of soundness: the paper's section on slots, free stack and table, read clause by clause, slowly.
-use crate::state::{List, MOST_CAPACITY, MOST_SLOTS, NONE, PLACES, State, UNUSED, at, first};
+use crate::sheet::{List, MOST_CAPACITY, MOST_SLOTS, NONE, PLACES, State, UNUSED, at, first};
 use head::Code;
 
 // What a list holds for a slot, 0 past its end.

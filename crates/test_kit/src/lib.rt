@@ -1,13 +1,17 @@
 // What the programs that drive the layers share: draws, counts, the list's links, and a plain list to compare them with.
 #![tactic(auto)]
 
+ghost use Rattle.std.specs.Prelude.{◌<◌};
+
 use std::fmt;
 
 pub mod line;
 pub mod links;
 
 // The next of a run of numbers below 65536 that takes each of them once.
-pub fn draw(x: u64) -> u64 {
+pub fn draw(x: u64) -> u64
+    ensures { result < 65536 }
+{
     (x % 65536 * 25173 + 13849) % 65536
 }
 

@@ -1,5 +1,6 @@
 // A list of at most 16 slots that is kept plainly, by moving entries in a `Vec`, and the links that the list has to have for it.
-ghost use Rattle.std.specs.Prelude.{◌≡◌, ◌<◌, ◌≤◌, IfSome, vec_len};
+ghost use Rattle.std.specs.Prelude.{◌≡◌, ◌<◌, ◌≤◌, IfSome, IsOk, vec_len};
+ghost use Rattle.head.specs.Bounds.{none_mark};
 
 use crate::links::Links;
 use head::{Head, Place, Slot};
@@ -26,7 +27,9 @@ pub struct Order {
 
 impl Order {
     // No slot is in use.
-    pub fn new(alloc: Global) -> Order {
+    pub fn new(alloc: Global) -> Order
+        ensures { (vec_len result.entries ≡ 0) × (vec_len result.pile ≡ 0) × (result.top ≡ 0) }
+    {
         Order {
             entries: Vec::new(alloc),
             pile: Vec::new(alloc),
@@ -35,7 +38,9 @@ impl Order {
     }
 
     // The slot at a place, none past the end.
-    pub fn slot_at(&self, place: usize) -> Slot {
+    pub fn slot_at(&self, place: usize) -> Slot
+        ensures { vec_len self.now.entries ≤ place → result.0 ≡ none_mark }
+    {
         self.entries
             .get(place)
             .map_or(Slot(Head::NONE), |entry| entry.slot)
@@ -84,7 +89,9 @@ impl Order {
     }
 
     // The entry at a place comes to the front.
-    pub fn raise(&mut self, place: usize) -> Result<(), AllocError> {
+    pub fn raise(&mut self, place: usize) -> Result<(), AllocError>
+        ensures { IsOk result → vec_len self.new.entries ≡ vec_len self.old.entries }
+    {
         if place < self.entries.len() {
             let entry = self.entries.remove(place);
             self.entries.insert(0, entry)?;
@@ -102,7 +109,9 @@ impl Order {
     }
 
     // Every entry leaves, and no slot counts as used.
-    pub fn clear(&mut self) {
+    pub fn clear(&mut self)
+        ensures { (vec_len self.new.entries ≡ 0) × (vec_len self.new.pile ≡ 0) × (self.new.top ≡ 0) }
+    {
         self.entries.clear();
         self.pile.clear();
         self.top = 0;

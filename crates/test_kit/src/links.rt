@@ -4,6 +4,7 @@ ghost use Rattle.list.specs.Inspect.{Inspected};
 ghost use Rattle.list.specs.Promises.{Held, Room};
 
 use head::{Head, Slot};
+use state::LinksView;
 
 // The list: its head and its links.
 #[derive(Debug, Clone, Copy, PartialEq, Eq)]
@@ -25,73 +26,76 @@ impl Links {
         }
     }
 
-    fn is_sound(&self) -> bool
-        ensures { Inspected self.now.head self.now.next self.now.prev self.now.stack result }
-    {
-        list::inspect_links(self.head, &self.next, &self.prev, &self.stack)
-    }
-
-    // Whether they are sound and a slot is in use.
-    fn holds(&self, slot: Slot) -> bool
-        ensures held { result ≡ true → Held self.now.head self.now.next self.now.prev self.now.stack slot.0 }
-        ensures room { result ≡ true → Room self.now.head self.now.next self.now.prev slot.0 }
-    {
-        if !self.is_sound() || self.head.slots <= slot.0 {
-            return false;
-        }
-        list::at(&self.next, slot.0) != Head::UNUSED
+    // The links, lent to be changed.
+    fn lent(&mut self) -> state::Links<'_> {
+        let Links {
+            next,
+            prev,
+            stack,
+            ..
+        } = self;
+        state::Links { next, prev, stack }
     }
 
     // A slot comes to the front.
     pub fn push(&mut self) {
-        if self.is_sound() && self.head.live < self.head.slots {
-            let taken = list::push_front(
-                self.head,
-                &mut self.next,
-                &mut self.prev,
-                &mut self.stack,
-            );
-            self.head = taken.head;
+        let head = self.head;
+        let mut links = self.lent();
+        if head.live < head.slots && is_sound(head, &links.view()) {
+            self.head = list::push_front(head, &mut links).head;
         }
     }
 
     // A slot leaves, and comes on the stack.
     pub fn remove(&mut self, slot: Slot) {
-        if self.holds(slot) {
-            self.head = list::remove(
-                self.head,
-                &mut self.next,
-                &mut self.prev,
-                &mut self.stack,
-                slot,
-            );
+        let head = self.head;
+        let mut links = self.lent();
+        if holds(head, &links.view(), slot) {
+            self.head = list::remove(head, &mut links, slot);
         }
     }
 
     // A slot of the list comes to the front.
     pub fn raise(&mut self, slot: Slot) {
-        if self.holds(slot) {
-            self.head = list::move_front(self.head, &mut self.next, &mut self.prev, slot);
+        let head = self.head;
+        let mut links = self.lent();
+        if holds(head, &links.view(), slot) {
+            self.head = list::move_front(head, &mut links, slot);
         }
     }
 
     // So many slots leave by the back.
     pub fn evict(&mut self, count: u32) {
-        if self.is_sound() && count <= self.head.live {
-            self.head = list::evict(
-                self.head,
-                &mut self.next,
-                &mut self.prev,
-                &mut self.stack,
-                count,
-            );
+        let head = self.head;
+        let mut links = self.lent();
+        if count <= head.live && is_sound(head, &links.view()) {
+            self.head = list::evict(head, &mut links, count);
         }
     }
 
     // Every slot leaves.
     pub fn clear(&mut self) {
-        if self.is_sound() {
-            self.head = list::clear(self.head, &mut self.next, &mut self.prev, &mut self.stack);
+        let head = self.head;
+        let mut links = self.lent();
+        if is_sound(head, &links.view()) {
+            self.head = list::clear(head, &mut links);
         }
     }
+}
+
+fn is_sound(head: Head, links: &LinksView<'_>) -> bool
+    ensures { Inspected head links.now.next.now links.now.prev.now links.now.stack.now result }
+{
+    list::inspect_links(head, links.next, links.prev, links.stack)
+}
+
+// Whether they are sound and a slot is in use.
+fn holds(head: Head, links: &LinksView<'_>, slot: Slot) -> bool
+    ensures held { result ≡ true → Held head links.now.next.now links.now.prev.now links.now.stack.now slot.0 }
+    ensures room { result ≡ true → Room head links.now.next.now links.now.prev.now slot.0 }
+{
+    if !is_sound(head, links) || head.slots <= slot.0 {
+        return false;
+    }
+    list::at(links.next, slot.0) != Head::UNUSED
 }

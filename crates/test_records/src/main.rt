@@ -1,13 +1,11 @@
 // Makes calls that hand out rows, each twice on the same state, and writes the rows of both: from the four row lists, and from records.
 #![tactic(auto)]
 
-ghost use Rattle.std.specs.Prelude.{◌<◌};
-ghost use Rattle.store.specs.State.{fields};
-ghost use Rattle.plan.specs.States.{state};
+ghost use Rattle.state.specs.State.{held, lent, seen};
 ghost use Rattle.test_records.specs.Eight.{Lists, ListsTold};
 
 use head::{Answer, Code, Command, Head, Row, Rule};
-use opening::Opened;
+use state::{Fields, FieldsView, Links, State, View};
 use std::{fmt, io};
 
 const BLANK: Row = Row {
@@ -18,82 +16,20 @@ const BLANK: Row = Row {
 };
 
 // The rows of a call, in eight records that are blank at first.
-fn recorded(
-    head: Head,
-    codes: &mut [u64],
-    stamps: &mut [u32],
-    values: &mut [u64],
-    weights: &mut [u64],
-    next: &mut [u32],
-    prev: &mut [u32],
-    stack: &mut [u32],
-    cells: &mut [u32],
-    row_codes: &mut [u64],
-    row_stamps: &mut [u32],
-    row_values: &mut [u64],
-    row_weights: &mut [u64],
-    command: Command,
-) -> [Row; 8]
-    ensures { Lists command (state head codes.old stamps.old values.old weights.old next.old prev.old stack.old cells.old) (fields row_codes.old row_stamps.old row_values.old row_weights.old) result }
+fn recorded(state: &mut State<'_>, rows: &mut Fields<'_>, command: Command) -> [Row; 8]
+    ensures { Lists command (lent state.old) (held rows.old) result }
 {
     let mut list = [BLANK; 8];
-    records::call(
-        head,
-        codes,
-        stamps,
-        values,
-        weights,
-        next,
-        prev,
-        stack,
-        cells,
-        row_codes,
-        row_stamps,
-        row_values,
-        row_weights,
-        &mut list,
-        command,
-    );
+    records::call(state, rows, &mut list, command);
     list
 }
 
 // The same of a listing.
-fn listed(
-    head: Head,
-    codes: &[u64],
-    stamps: &[u32],
-    values: &[u64],
-    weights: &[u64],
-    next: &[u32],
-    prev: &[u32],
-    stack: &[u32],
-    cells: &[u32],
-    row_codes: &mut [u64],
-    row_stamps: &mut [u32],
-    row_values: &mut [u64],
-    row_weights: &mut [u64],
-    command: Command,
-) -> [Row; 8]
-    ensures { ListsTold command (state head codes.now stamps.now values.now weights.now next.now prev.now stack.now cells.now) (fields row_codes.old row_stamps.old row_values.old row_weights.old) result }
+fn listed(view: &View<'_>, rows: &mut Fields<'_>, command: Command) -> [Row; 8]
+    ensures { ListsTold command (seen view.now) (held rows.old) result }
 {
     let mut list = [BLANK; 8];
-    records::tell(
-        head,
-        codes,
-        stamps,
-        values,
-        weights,
-        next,
-        prev,
-        stack,
-        cells,
-        row_codes,
-        row_stamps,
-        row_values,
-        row_weights,
-        &mut list,
-        command,
-    );
+    records::tell(view, rows, &mut list, command);
     list
 }
 
@@ -184,125 +120,87 @@ impl Rows {
         }
     }
 
-    fn at(&self, i: usize) -> Row
-        requires { i < 16 }
-    {
-        Row {
-            code: Code(self.codes[i]),
-            stamp: self.stamps[i],
-            value: self.values[i],
-            weight: self.weights[i],
+    // The lists, lent to be written.
+    fn lent(&mut self) -> Fields<'_> {
+        let Rows {
+            codes,
+            stamps,
+            values,
+            weights,
+        } = self;
+        Fields {
+            codes,
+            stamps,
+            values,
+            weights,
         }
     }
 }
 
 // The cache that the calls are made on.
 #[derive(Clone, Copy)]
-struct State {
+struct Cache {
     head: Head,
-    codes: [u64; 16],
-    stamps: [u32; 16],
-    values: [u64; 16],
-    weights: [u64; 16],
+    entries: Rows,
     next: [u32; 16],
     prev: [u32; 16],
     stack: [u32; 16],
     cells: [u32; 32],
 }
 
-impl State {
+impl Cache {
     // A plain cache of capacity 9 and 16 slots. A refused opening would leave a head that every call refuses.
-    fn begun() -> State {
-        let mut state = State {
+    fn begun() -> Cache {
+        let mut cache = Cache {
             head: Head::fresh(0, 0, 0),
-            codes: [0; 16],
-            stamps: [0; 16],
-            values: [0; 16],
-            weights: [0; 16],
+            entries: Rows::blank(),
             next: [0; 16],
             prev: [0; 16],
             stack: [0; 16],
             cells: [0; 32],
         };
-        let opened = cache::open(
-            Head::PLAIN,
-            9,
-            16,
-            &mut state.codes,
-            &mut state.stamps,
-            &mut state.values,
-            &mut state.weights,
-            &mut state.next,
-            &mut state.prev,
-            &mut state.stack,
-            &mut state.cells,
-        );
-        if let Opened::Cache(head) = opened {
-            state.head = head;
+        let mut state = cache.lent();
+        if let Ok(head) = cache::open(Head::PLAIN, 9, 16, &mut state) {
+            cache.head = head;
         }
-        state
+        cache
+    }
+
+    // Head and lists, lent to be changed.
+    fn lent(&mut self) -> State<'_> {
+        let Cache {
+            head,
+            entries,
+            next,
+            prev,
+            stack,
+            cells,
+        } = self;
+        State {
+            head: *head,
+            fields: entries.lent(),
+            links: Links { next, prev, stack },
+            cells,
+        }
     }
 
     // One call, with room for as many rows as there are records.
-    fn call(&mut self, rows: &mut Rows, command: Command) -> Answer {
-        let said = records::call_within(
-            self.head,
-            &mut self.codes,
-            &mut self.stamps,
-            &mut self.values,
-            &mut self.weights,
-            &mut self.next,
-            &mut self.prev,
-            &mut self.stack,
-            &mut self.cells,
-            &mut rows.codes,
-            &mut rows.stamps,
-            &mut rows.values,
-            &mut rows.weights,
-            8,
-            command,
-        );
-        self.head = said.head;
-        said.answer
+    fn call(&mut self, rows: &mut Fields<'_>, command: Command) -> Answer {
+        let mut state = self.lent();
+        let answer = door::call_within(&mut state, rows, 8, command);
+        self.head = state.head;
+        answer
     }
 
-    // The rows of one call, as records, on a copy of the state.
+    // The rows of one call, as records, on a copy of the cache.
     fn as_records(self, command: Command) -> [Row; 8] {
-        let mut state = self;
-        let mut rows = Rows::blank();
+        let mut cache = self;
+        let mut state = cache.lent();
+        let mut lists = Rows::blank();
+        let mut rows = lists.lent();
         match command {
-            Command::List | Command::ListBack => listed(
-                state.head,
-                &state.codes,
-                &state.stamps,
-                &state.values,
-                &state.weights,
-                &state.next,
-                &state.prev,
-                &state.stack,
-                &state.cells,
-                &mut rows.codes,
-                &mut rows.stamps,
-                &mut rows.values,
-                &mut rows.weights,
-                command,
-            ),
-            _ => recorded(
-                state.head,
-                &mut state.codes,
-                &mut state.stamps,
-                &mut state.values,
-                &mut state.weights,
-                &mut state.next,
-                &mut state.prev,
-                &mut state.stack,
-                &mut state.cells,
-                &mut rows.codes,
-                &mut rows.stamps,
-                &mut rows.values,
-                &mut rows.weights,
-                command,
-            ),
+            Command::List | Command::ListBack => listed(&state.view(), &mut rows, command),
+            _ => recorded(&mut state, &mut rows, command),
         }
     }
 }
@@ -312,20 +210,22 @@ fn show(
     rt: &impl Print,
     i: usize,
     answer: Answer,
-    rows: &Rows,
+    rows: &FieldsView<'_>,
     records: &[Row; 8],
 ) -> io::Result<()> {
     print!(rt; "call {i}")?;
     if let Answer::No(refusal) = answer {
         print!(rt; " no {}", refusal.number())?;
     }
-    let n = answer.rows() as usize;
+    let n = answer.rows();
     print!(rt; ": rows {n}\n  numbers")?;
-    for k in 0..n.min(8) {
-        print!(rt; " {}", Bracketed(rows.at(k)))?;
+    for k in 0..n {
+        if (k as usize) < rows.room() {
+            print!(rt; " {}", Bracketed(rows.read(k)))?;
+        }
     }
     print!(rt; "\n  records")?;
-    for row in records.iter().take(n) {
+    for row in records.iter().take(n as usize) {
         print!(rt; " {}", Bracketed(*row))?;
     }
     println!(rt)
@@ -333,13 +233,14 @@ fn show(
 
 // The calls are made one after another, each twice on the same state.
 fn main(rt: HostRuntime) -> io::Result<()> {
-    let mut state = State::begun();
+    let mut cache = Cache::begun();
     let calls = commands();
     for (i, call) in calls.iter().enumerate() {
-        let records = state.as_records(*call);
-        let mut rows = Rows::blank();
-        let answer = state.call(&mut rows, *call);
-        show(&rt, i, answer, &rows, &records)?;
+        let records = cache.as_records(*call);
+        let mut lists = Rows::blank();
+        let mut rows = lists.lent();
+        let answer = cache.call(&mut rows, *call);
+        show(&rt, i, answer, &rows.view(), &records)?;
     }
     Ok(())
 }

@@ -1,6 +1,7 @@
 // A state: a head with its eight lists. A damage names a number by its place on one sheet: the head's nine first, then list by list.
 use crate::samples::Sample;
 use head::{Head, Place, Slot};
+use state::{FieldsView, LinksView, View};
 use std::array;
 
 // The paper's marks and bounds. `Head` names them too; the plain check stands on the paper alone.
@@ -228,16 +229,20 @@ impl State {
 
     // What the library says of it.
     pub fn inspected(&self) -> bool {
-        inspect::inspect(
-            self.head,
-            first(&self.codes, self.lent(List::Codes)),
-            first(&self.stamps, self.lent(List::Stamps)),
-            first(&self.values, self.lent(List::Values)),
-            first(&self.weights, self.lent(List::Weights)),
-            first(&self.next, self.lent(List::Next)),
-            first(&self.prev, self.lent(List::Prev)),
-            first(&self.stack, self.lent(List::Stack)),
-            first(&self.cells, self.lent(List::Cells)),
-        )
+        inspect::inspect(&View {
+            head: self.head,
+            fields: FieldsView {
+                codes: first(&self.codes, self.lent(List::Codes)),
+                stamps: first(&self.stamps, self.lent(List::Stamps)),
+                values: first(&self.values, self.lent(List::Values)),
+                weights: first(&self.weights, self.lent(List::Weights)),
+            },
+            links: LinksView {
+                next: first(&self.next, self.lent(List::Next)),
+                prev: first(&self.prev, self.lent(List::Prev)),
+                stack: first(&self.stack, self.lent(List::Stack)),
+            },
+            cells: first(&self.cells, self.lent(List::Cells)),
+        })
     }
 }

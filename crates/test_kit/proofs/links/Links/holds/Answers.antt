@@ -1,7 +1,0 @@
--- The inspection passed, and the slot is one of the list's.
-use Rattle.std.proofs.Common.{◌∙◌, rules}
-use Rattle.list.proofs.Walks.{held_used}
-use Rattle.test_kit.proofs.links.Links.holds.Goals as goal
-
-pub returns-clause-held : goal.returns-clause-held
-returns-clause-held c = λ h. held_used _ (c.is_sound.ensures.sound c.if-not-is_sound.false) c.if-self-slot.false (λ e. let f = c.at.ensures ∙ e in search rules)
