@@ -173,7 +173,13 @@ pub fn back_mut(state: &mut State<'_>, value: u64) -> Answer
 }
 
 // Puts a value in front of a plain cache. A present code keeps its stamp: `Was`; a new one pushes the back out of a full cache: `New`.
-pub fn put(state: &mut State<'_>, rows: &mut Fields<'_>, code: Code, stamp: u32, value: u64) -> Answer
+pub fn put(
+    state: &mut State<'_>,
+    rows: &mut Fields<'_>,
+    code: Code,
+    stamp: u32,
+    value: u64,
+) -> Answer
     ensures lists { SameLists state.old state.new }
     ensures row_lists { SameFields rows.old rows.new }
     ensures calls { Calls (Put code stamp value) (lent state.old) (lent state.new) (held rows.old) (held rows.new) result }
@@ -182,17 +188,28 @@ pub fn put(state: &mut State<'_>, rows: &mut Fields<'_>, code: Code, stamp: u32,
 }
 
 // Puts an entry with a weight in front. A present code leaves first: `Was`; else `New`. What is pushed out is handed out, oldest first.
-pub fn put_with_weight(state: &mut State<'_>, rows: &mut Fields<'_>, code: Code, stamp: u32, value: u64, weight: u64) -> Answer
+pub fn put_with_weight(
+    state: &mut State<'_>,
+    rows: &mut Fields<'_>,
+    code: Code,
+    stamp: u32,
+    value: u64,
+    weight: u64,
+) -> Answer
     ensures lists { SameLists state.old state.new }
     ensures row_lists { SameFields rows.old rows.new }
     ensures calls { Calls (PutWithWeight code stamp value weight) (lent state.old) (lent state.new) (held rows.old) (held rows.new) result }
 {
-    door::call(state, rows, Command::PutWithWeight {
+    door::call(
+        state,
+        rows,
+        Command::PutWithWeight {
             code,
             stamp,
             value,
             weight,
-        })
+        },
+    )
 }
 
 // Removes what the rule does not keep and hands it out, front to back: `Done`.
@@ -214,28 +231,49 @@ pub fn resize(state: &mut State<'_>, rows: &mut Fields<'_>, capacity: u64) -> An
 }
 
 // Adds an amount to a present value, modulo 2^64, or puts it as a new one, on a plain cache: `Now`.
-pub fn put_or_modify(state: &mut State<'_>, rows: &mut Fields<'_>, code: Code, stamp: u32, amount: u64) -> Answer
+pub fn put_or_modify(
+    state: &mut State<'_>,
+    rows: &mut Fields<'_>,
+    code: Code,
+    stamp: u32,
+    amount: u64,
+) -> Answer
     ensures lists { SameLists state.old state.new }
     ensures row_lists { SameFields rows.old rows.new }
     ensures calls { Calls (PutOrModify code stamp amount) (lent state.old) (lent state.new) (held rows.old) (held rows.new) result }
 {
-    door::call(state, rows, Command::PutOrModify {
+    door::call(
+        state,
+        rows,
+        Command::PutOrModify {
             code,
             stamp,
             amount,
-        })
+        },
+    )
 }
 
 // The same up to a ceiling: above it the value stays, and a present entry has moved to the front.
-pub fn try_put_or_modify(state: &mut State<'_>, rows: &mut Fields<'_>, code: Code, stamp: u32, amount: u64, ceiling: u64) -> Answer
+pub fn try_put_or_modify(
+    state: &mut State<'_>,
+    rows: &mut Fields<'_>,
+    code: Code,
+    stamp: u32,
+    amount: u64,
+    ceiling: u64,
+) -> Answer
     ensures lists { SameLists state.old state.new }
     ensures row_lists { SameFields rows.old rows.new }
     ensures calls { Calls (TryPutOrModify code stamp amount ceiling) (lent state.old) (lent state.new) (held rows.old) (held rows.new) result }
 {
-    door::call(state, rows, Command::TryPutOrModify {
+    door::call(
+        state,
+        rows,
+        Command::TryPutOrModify {
             code,
             stamp,
             amount,
             ceiling,
-        })
+        },
+    )
 }

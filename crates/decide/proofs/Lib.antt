@@ -1,5 +1,4 @@
-pub mod Leaves
-pub mod Wanting
+pub mod Refusing
 pub mod Pointing
 pub mod Finding
 pub mod Putting

@@ -1,6 +1,6 @@
 -- The calls that hand out rows: as many as lent, and what comes in.
 -- Assumes nothing.
-use Rattle.std.proofs.Common.{◌≡◌, ℕ, ◌+◌, ◌<◌, ◌≤◌, Bool, true, false, ◌&&◌, eqb, ltb, leb, List, length, get_or, sym, refl, ◌∙◌, arith, le-ltb, lt-ltb}
+use Rattle.std.proofs.Common.{◌≡◌, ℕ, ◌+◌, ◌<◌, ◌≤◌, Bool, true, false, ◌&&◌, eqb, ltb, leb, List, length, get_or, sym, refl, ap, ◌∙◌, arith, le-ltb, lt-ltb}
 use lib.Dec.{leb-zero}
 use Rattle.head.specs.declared.Head.{Head}
 use Rattle.head.specs.declared.Slot.{Slot}
@@ -33,6 +33,10 @@ use Rattle.decide.proofs.Finding.{says, on_plain_lem, if_absent}
 -- no more leave than there are
 pub leaving_most : (b : ℕ) (es : List Row) → leaving b es ≤ length es
 leaving_most b es = omega arith
+
+-- a row that weighs nothing
+pub unweighed : (row : Row) → row.weight ≡ 0 → row ≡ entry row.code.0 row.stamp row.value 0
+unweighed row e = ap (entry row.code.0 row.stamp row.value) e
 
 -- ---- rows within what is lent
 
@@ -82,8 +86,9 @@ module _ {h : Head} {values : List ℕ} {a : Search} {code : ℕ} (lent : ℕ) w
   }
 
   module _ (p : h.kind ≡ plain_kind) {cell count : ℕ} (e : a ≡ Empty cell count) (stamp n : ℕ) where
-    pub put_none : {k : ℕ} {r : Decision} → k ≡ pushes h → r ≡ admitted h lent k (entry code stamp n 0) (New k) → Settles (Sought h values a code) (put_call code stamp n) lent r
-    put_none z w = on_plain_lem lent _ p (if_absent lent _ _ e (comes_in (entry code stamp n 0) New (rw z at w)))
+    pub put_none : {row : Row} {k : ℕ} {r : Decision} → row ≡ entry code stamp n 0 → k ≡ pushes h → r ≡ admitted h lent k row (New k)
+        → Settles (Sought h values a code) (put_call code stamp n) lent r
+    put_none y z w = on_plain_lem lent _ p (if_absent lent _ _ e (comes_in (entry code stamp n 0) New (rw (y, z) at w)))
 
     pub modify_none : {r : Decision} → r ≡ entered h lent code stamp n → Settles (Sought h values a code) (put_or_modify_call code stamp n) lent r
     modify_none w = on_plain_lem lent _ p (if_absent lent _ _ e (comes_in (entry code stamp n 0) (Now n true) w))

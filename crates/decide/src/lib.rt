@@ -1,18 +1,19 @@
 // Every call decided before anything changes: its answer or refusal, and the plan. The state is only read.
 #![tactic(auto)]
 
-ghost use Rattle.std.specs.Prelude.{◌≡◌, ℕ, ◌+◌, ◌*◌, ◌≤◌, ◌&&◌, List, ◌==◌, nat_lt};
-ghost use Rattle.head.specs.Bounds.{most_capacity, capacity_ok};
-ghost use Rattle.model.specs.Desk.{kind_of};
+ghost use Rattle.std.specs.Prelude.{◌≡◌, ℕ, ◌+◌, ◌*◌, ◌≤◌, ◌&&◌, List, ◌==◌, nat_lt, nat_le};
+ghost use Rattle.head.specs.Bounds.{most_capacity, plain_kind, capacity_ok};
+ghost use Rattle.model.specs.Desk.{kind_of, entry};
 ghost use Rattle.model.specs.Calls.{peek_call, contains_call, get_call, pop_call, get_mut_call, put_call, put_with_weight_call, put_or_modify_call, try_put_or_modify_call, retain_call, resize_call, wrong_weight};
 ghost use Rattle.model.specs.Perform.{verdict};
 ghost use Rattle.table.specs.Sound.{Gapped};
 ghost use Rattle.state.specs.State.{seen, viewed};
 ghost use Rattle.plan.specs.States.{Means, Sound};
 ghost use Rattle.head.specs.declared.Answer.TheVariants.{Done};
+ghost use Rattle.head.specs.declared.Refusal.TheVariants.{WrongKind, TooFewRows};
 ghost use Rattle.rows.specs.Views.{Forward, Weighted};
 ghost use Rattle.decide.specs.Views.{ForSome, Sought, Loaded};
-ghost use Rattle.decide.specs.Settled.{Settles, Always, peek_mut_call};
+ghost use Rattle.decide.specs.Settled.{Settles, Always, settled, given, peek_mut_call};
 ghost use Rattle.decide.specs.Wants.{wanted_by, search_for};
 ghost use Rattle.decide.specs.Numbers.{fitted, admitted, pushes, entered, modified, Ending, Readable, Reached, shown, popped, assigned};
 
@@ -57,14 +58,25 @@ fn seek(view: &View<'_>, command: Command) -> Search
     )
 }
 
+// 3 where the cache is not a plain one.
+fn plain_only(kind: u32) -> Result<(), Refusal>
+    ensures { result ≡ given (kind == plain_kind) WrongKind }
+{
+    if kind == Head::PLAIN {
+        Ok(())
+    } else {
+        Err(Refusal::WrongKind)
+    }
+}
+
 // 6 where there are more rows than the lists lent for them hold.
-fn within(room: usize, k: u32, decision: Decision) -> Decision
-    ensures { result ≡ fitted room k decision }
+fn within(room: usize, k: u32) -> Result<(), Refusal>
+    ensures { result ≡ given (nat_le k room) TooFewRows }
 {
     if k as usize <= room {
-        decision
+        Ok(())
     } else {
-        Decision::refuse(Refusal::TooFewRows)
+        Err(Refusal::TooFewRows)
     }
 }
 
@@ -76,20 +88,17 @@ fn no_slot(head: Head, k: u32) -> bool
 }
 
 // A new row comes in after k leave: 5 where every slot is taken and none leaves, then 6.
-fn admit(head: Head, room: usize, k: u32, row: Row, answer: Answer) -> Decision
-    ensures { result ≡ admitted head room k row answer }
+fn admit(head: Head, room: usize, k: u32, row: Row, answer: Answer) -> Result<Decision, Refusal>
+    ensures { settled result ≡ admitted head room k row answer }
 {
     if no_slot(head, k) {
-        return Decision::refuse(Refusal::NoSlot);
+        return Err(Refusal::NoSlot);
     }
-    within(
-        room,
-        k,
-        Decision {
-            answer,
-            plan: Plan::Place { evict: k, row },
-        },
-    )
+    within(room, k)?;
+    Ok(Decision {
+        answer,
+        plan: Plan::Place { evict: k, row },
+    })
 }
 
 // How many a new code pushes out of a plain cache: the back where live = C.
@@ -113,24 +122,31 @@ fn over(old: u64, amount: u64, ceiling: u64) -> bool
     ceiling < old || ceiling - old < amount
 }
 
-// An absent code comes in with an amount.
-fn enter(head: Head, room: usize, code: Code, stamp: u32, amount: u64) -> Decision
-    ensures { result ≡ entered head room code.0 stamp amount }
+// The row of a plain cache: it weighs nothing.
+fn plain_row(code: Code, stamp: u32, value: u64) -> Row
+    ensures { result ≡ entry code.0 stamp value 0 }
 {
-    let k = pushing(head);
-    let row = Row {
+    Row {
         code,
         stamp,
-        value: amount,
+        value,
         weight: 0,
-    };
+    }
+}
+
+// An absent code comes in with an amount.
+fn enter(head: Head, room: usize, row: Row) -> Result<Decision, Refusal>
+    requires { row.weight ≡ 0 }
+    ensures { settled result ≡ entered head room row.code.0 row.stamp row.value }
+{
+    let k = pushing(head);
     admit(
         head,
         room,
         k,
         row,
         Answer::Now {
-            value: amount,
+            value: row.value,
             new: true,
             rows: k,
         },
@@ -157,10 +173,10 @@ fn is_full(head: Head) -> bool
     requires { head.live + head.weight ≤ most_capacity }
     ensures { result ≡ (head.live + head.weight == head.capacity) }
 {
-    head.live as u64 + head.weight == head.capacity
+    u64::from(head.live) + head.weight == head.capacity
 }
 
-// `front` and `back`, by the slot at that end.
+// `front` and `back`, by the slot at that end: 01 asks for the mark NONE where there is none.
 fn show(fields: &FieldsView<'_>, slot: Slot) -> Decision
     requires { Ending slot.0 (viewed fields.now) }
     ensures { result ≡ shown (viewed fields.now) slot }
@@ -188,27 +204,25 @@ fn pop_end(fields: &FieldsView<'_>, slot: Slot) -> Decision
 }
 
 // `front_mut` and `back_mut`, by the slot at that end.
-fn set_end(kind: u32, values: &[u64], slot: Slot, value: u64) -> Decision
+fn set_end(kind: u32, values: &[u64], slot: Slot, value: u64) -> Result<Decision, Refusal>
     requires { Readable slot.0 values.now }
-    ensures { result ≡ assigned kind values.now slot value }
+    ensures { settled result ≡ assigned kind values.now slot value }
 {
-    if kind != Head::PLAIN {
-        return Decision::refuse(Refusal::WrongKind);
-    }
+    plain_only(kind)?;
     if slot.0 == Head::NONE {
-        return Decision::say(Answer::Absent);
+        return Ok(Decision::say(Answer::Absent));
     }
     let old = values[slot.0 as usize];
-    Decision {
+    Ok(Decision {
         answer: Answer::Was {
             value: old,
             rows: 0,
         },
         plan: Plan::Set { slot, value },
-    }
+    })
 }
 
-// The calls that look for a code, each by what the search for it found.
+// The calls that look for a code, each by what the search for it found: 01 asks for its enum to be taken apart by let .. else.
 
 fn contains(search: Search) -> Decision
     ensures { (head : Head) (values : List ℕ) (code : ℕ) → Always (Sought head values search code) (contains_call code) result }
@@ -258,44 +272,40 @@ fn pop(values: &[u64], search: Search) -> Decision
     }
 }
 
-fn get_mut(head: Head, values: &[u64], search: Search, value: u64) -> Decision
+fn get_mut(head: Head, values: &[u64], search: Search, value: u64) -> Result<Decision, Refusal>
     requires { Reached search values.now }
-    ensures { (code : ℕ) → Always (Sought head values.now search code) (get_mut_call code value) result }
+    ensures { (code : ℕ) → Always (Sought head values.now search code) (get_mut_call code value) (settled result) }
 {
-    if head.kind != Head::PLAIN {
-        return Decision::refuse(Refusal::WrongKind);
-    }
+    plain_only(head.kind)?;
     let Search::Found { slot, .. } = search else {
-        return Decision::say(Answer::Absent);
+        return Ok(Decision::say(Answer::Absent));
     };
     let old = values[slot.0 as usize];
-    Decision {
+    Ok(Decision {
         answer: Answer::Was {
             value: old,
             rows: 0,
         },
         plan: Plan::Renew { slot, value },
-    }
+    })
 }
 
-fn peek_mut(head: Head, values: &[u64], search: Search, value: u64) -> Decision
+fn peek_mut(head: Head, values: &[u64], search: Search, value: u64) -> Result<Decision, Refusal>
     requires { Reached search values.now }
-    ensures { (code : ℕ) → Always (Sought head values.now search code) (peek_mut_call code value) result }
+    ensures { (code : ℕ) → Always (Sought head values.now search code) (peek_mut_call code value) (settled result) }
 {
-    if head.kind != Head::PLAIN {
-        return Decision::refuse(Refusal::WrongKind);
-    }
+    plain_only(head.kind)?;
     let Search::Found { slot, .. } = search else {
-        return Decision::say(Answer::Absent);
+        return Ok(Decision::say(Answer::Absent));
     };
     let old = values[slot.0 as usize];
-    Decision {
+    Ok(Decision {
         answer: Answer::Was {
             value: old,
             rows: 0,
         },
         plan: Plan::Set { slot, value },
-    }
+    })
 }
 
 fn put(
@@ -303,34 +313,27 @@ fn put(
     values: &[u64],
     search: Search,
     room: usize,
-    code: Code,
-    stamp: u32,
-    value: u64,
-) -> Decision
-    requires { Reached search values.now }
-    ensures { Settles (Sought head values.now search code.0) (put_call code.0 stamp value) room result }
+    row: Row,
+) -> Result<Decision, Refusal>
+    requires { Reached search values.now × (row.weight ≡ 0) }
+    ensures { Settles (Sought head values.now search row.code.0) (put_call row.code.0 row.stamp row.value) room (settled result) }
 {
-    if head.kind != Head::PLAIN {
-        return Decision::refuse(Refusal::WrongKind);
-    }
+    plain_only(head.kind)?;
     let Search::Found { slot, .. } = search else {
         let k = pushing(head);
-        let row = Row {
-            code,
-            stamp,
-            value,
-            weight: 0,
-        };
         return admit(head, room, k, row, Answer::New { rows: k });
     };
     let old = values[slot.0 as usize];
-    Decision {
+    Ok(Decision {
         answer: Answer::Was {
             value: old,
             rows: 0,
         },
-        plan: Plan::Renew { slot, value },
-    }
+        plan: Plan::Renew {
+            slot,
+            value: row.value,
+        },
+    })
 }
 
 fn put_or_modify(
@@ -338,21 +341,17 @@ fn put_or_modify(
     values: &[u64],
     search: Search,
     room: usize,
-    code: Code,
-    stamp: u32,
-    amount: u64,
-) -> Decision
-    requires { Reached search values.now }
-    ensures { Settles (Sought head values.now search code.0) (put_or_modify_call code.0 stamp amount) room result }
+    row: Row,
+) -> Result<Decision, Refusal>
+    requires { Reached search values.now × (row.weight ≡ 0) }
+    ensures { Settles (Sought head values.now search row.code.0) (put_or_modify_call row.code.0 row.stamp row.value) room (settled result) }
 {
-    if head.kind != Head::PLAIN {
-        return Decision::refuse(Refusal::WrongKind);
-    }
+    plain_only(head.kind)?;
     let Search::Found { slot, .. } = search else {
-        return enter(head, room, code, stamp, amount);
+        return enter(head, room, row);
     };
     let old = values[slot.0 as usize];
-    modify(slot, old, amount)
+    Ok(modify(slot, old, row.value))
 }
 
 fn try_put_or_modify(
@@ -360,43 +359,44 @@ fn try_put_or_modify(
     values: &[u64],
     search: Search,
     room: usize,
-    code: Code,
-    stamp: u32,
-    amount: u64,
+    row: Row,
     ceiling: u64,
-) -> Decision
-    requires { Reached search values.now }
-    ensures { Settles (Sought head values.now search code.0) (try_put_or_modify_call code.0 stamp amount ceiling) room result }
+) -> Result<Decision, Refusal>
+    requires { Reached search values.now × (row.weight ≡ 0) }
+    ensures { Settles (Sought head values.now search row.code.0) (try_put_or_modify_call row.code.0 row.stamp row.value ceiling) room (settled result) }
 {
-    if head.kind != Head::PLAIN {
-        return Decision::refuse(Refusal::WrongKind);
-    }
+    plain_only(head.kind)?;
     let Search::Found { slot, .. } = search else {
-        if ceiling < amount {
-            return Decision::refuse(Refusal::OverCeiling);
+        if ceiling < row.value {
+            return Err(Refusal::OverCeiling);
         }
-        return enter(head, room, code, stamp, amount);
+        return enter(head, room, row);
     };
     let old = values[slot.0 as usize];
-    if over(old, amount, ceiling) {
-        return Decision {
+    if over(old, row.value, ceiling) {
+        return Ok(Decision {
             answer: Answer::No(Refusal::OverCeiling),
             plan: Plan::Raise(slot),
-        };
+        });
     }
-    modify(slot, old, amount)
+    Ok(modify(slot, old, row.value))
 }
 
-fn put_with_weight(view: &View<'_>, search: Search, room: usize, row: Row) -> Decision
+fn put_with_weight(
+    view: &View<'_>,
+    search: Search,
+    room: usize,
+    row: Row,
+) -> Result<Decision, Refusal>
     requires { ForSome (Loaded view.now.head view.now.fields.values.now view.now.fields.weights.now view.now.links.prev.now search row.code.0) }
-    ensures { Settles (Loaded view.now.head view.now.fields.values.now view.now.fields.weights.now view.now.links.prev.now search row.code.0) (put_with_weight_call row.code.0 row.stamp row.value row.weight) room result }
+    ensures { Settles (Loaded view.now.head view.now.fields.values.now view.now.fields.weights.now view.now.links.prev.now search row.code.0) (put_with_weight_call row.code.0 row.stamp row.value row.weight) room (settled result) }
 {
     let head = view.head;
     if wrong_weight(head.kind, row.weight) {
-        return Decision::refuse(Refusal::WrongKind);
+        return Err(Refusal::WrongKind);
     }
     if head.capacity <= row.weight {
-        return Decision::refuse(Refusal::TooHeavy);
+        return Err(Refusal::TooHeavy);
     }
     // What entries may take beside the new one: eviction goes on while live + weight + new weight >= C.
     let budget = head.capacity - 1 - row.weight;
@@ -406,39 +406,33 @@ fn put_with_weight(view: &View<'_>, search: Search, room: usize, row: Row) -> De
     };
     let k = rows::leaving(view, budget, slot);
     let old = view.fields.values[slot.0 as usize];
-    within(
-        room,
-        k,
-        Decision {
-            answer: Answer::Was {
-                value: old,
-                rows: k,
-            },
-            plan: Plan::Replace {
-                slot,
-                evict: k,
-                row,
-            },
+    within(room, k)?;
+    Ok(Decision {
+        answer: Answer::Was {
+            value: old,
+            rows: k,
         },
-    )
+        plan: Plan::Replace {
+            slot,
+            evict: k,
+            row,
+        },
+    })
 }
 
-fn retain(view: &View<'_>, room: usize, rule: Rule) -> Decision
+fn retain(view: &View<'_>, room: usize, rule: Rule) -> Result<Decision, Refusal>
     requires { ForSome (Forward view.now.head (viewed view.now.fields) view.now.links.next.now) }
-    ensures { Settles (Forward view.now.head (viewed view.now.fields) view.now.links.next.now) (retain_call rule) room result }
+    ensures { Settles (Forward view.now.head (viewed view.now.fields) view.now.links.next.now) (retain_call rule) room (settled result) }
 {
     if Rule::WEIGHT < rule.number {
-        return Decision::refuse(Refusal::NotUnderstood);
+        return Err(Refusal::NotUnderstood);
     }
     let k = rows::removed_by(view, rule);
-    within(
-        room,
-        k,
-        Decision {
-            answer: Answer::Done { rows: k },
-            plan: Plan::Sweep(rule),
-        },
-    )
+    within(room, k)?;
+    Ok(Decision {
+        answer: Answer::Done { rows: k },
+        plan: Plan::Sweep(rule),
+    })
 }
 
 // Whether a cache may have this capacity.
@@ -448,65 +442,65 @@ fn capacity_ok(capacity: u64) -> bool
     0 < capacity && capacity <= Head::MOST_CAPACITY
 }
 
-fn resize(view: &View<'_>, room: usize, capacity: u64) -> Decision
+fn resize(view: &View<'_>, room: usize, capacity: u64) -> Result<Decision, Refusal>
     requires { ForSome (Weighted view.now.head view.now.fields.weights.now view.now.links.prev.now) }
-    ensures { Settles (Weighted view.now.head view.now.fields.weights.now view.now.links.prev.now) (resize_call capacity) room result }
+    ensures { Settles (Weighted view.now.head view.now.fields.weights.now view.now.links.prev.now) (resize_call capacity) room (settled result) }
 {
     if !capacity_ok(capacity) {
-        return Decision::refuse(Refusal::NotUnderstood);
+        return Err(Refusal::NotUnderstood);
     }
     let k = rows::leaving(view, capacity, Slot(Head::NONE));
-    within(
-        room,
-        k,
-        Decision {
-            answer: Answer::Done { rows: k },
-            plan: Plan::Fit { evict: k, capacity },
-        },
-    )
+    within(room, k)?;
+    Ok(Decision {
+        answer: Answer::Done { rows: k },
+        plan: Plan::Fit { evict: k, capacity },
+    })
 }
 
 // A listing, either way.
-fn list(live: u32, room: usize, plan: Plan) -> Decision
-    ensures { result ≡ fitted room live (record { answer = Done live; plan = plan }) }
+fn list(live: u32, room: usize, plan: Plan) -> Result<Decision, Refusal>
+    ensures { settled result ≡ fitted room live (record { answer = Done live; plan = plan }) }
 {
-    within(
-        room,
-        live,
-        Decision {
-            answer: Answer::Done { rows: live },
-            plan,
-        },
-    )
+    within(room, live)?;
+    Ok(Decision {
+        answer: Answer::Done { rows: live },
+        plan,
+    })
 }
 
-// Decides a call, with so many rows lent.
-pub fn decide(view: &View<'_>, room: usize, command: Command) -> Decision
+// A call with so many rows lent: what is decided, or a refusal that leaves all untouched.
+fn settle(view: &View<'_>, room: usize, command: Command) -> Result<Decision, Refusal>
     requires { Sound (seen view.now) }
-    ensures { Settles (Means (seen view.now)) (verdict command) room result }
+    ensures { Settles (Means (seen view.now)) (verdict command) room (settled result) }
 {
     let head = view.head;
-    let live = head.live as u64;
+    let live = u64::from(head.live);
     let fields = &view.fields;
     let values = view.fields.values;
     let search = seek(view, command);
     match command {
-        Command::Len => Decision::say(Answer::Count(live)),
-        Command::Capacity => Decision::say(Answer::Count(head.capacity)),
-        Command::Weight => Decision::say(Answer::Count(head.weight)),
-        Command::IsEmpty => Decision::say(Answer::Flag(live == 0)),
-        Command::IsFull => Decision::say(Answer::Flag(is_full(head))),
-        Command::Front => show(fields, head.front),
-        Command::Back => show(fields, head.back),
-        Command::Peek(_) => peek(values, search),
-        Command::Contains(_) => contains(search),
+        Command::Len => Ok(Decision::say(Answer::Count(live))),
+        Command::Capacity => Ok(Decision::say(Answer::Count(head.capacity))),
+        Command::Weight => Ok(Decision::say(Answer::Count(head.weight))),
+        Command::IsEmpty => Ok(Decision::say(Answer::Flag(live == 0))),
+        Command::IsFull => Ok(Decision::say(Answer::Flag(is_full(head)))),
+        Command::Front => Ok(show(fields, head.front)),
+        Command::Back => Ok(show(fields, head.back)),
+        Command::Peek(_) => Ok(peek(values, search)),
+        Command::Contains(_) => Ok(contains(search)),
         Command::List => list(head.live, room, Plan::List),
         Command::ListBack => list(head.live, room, Plan::ListBack),
-        Command::Get(_) => get(values, search),
-        Command::Pop(_) => pop(values, search),
-        Command::PopFront => pop_end(fields, head.front),
-        Command::PopBack => pop_end(fields, head.back),
-        Command::Put { code, stamp, value } => put(head, values, search, room, code, stamp, value),
+        Command::Get(_) => Ok(get(values, search)),
+        Command::Pop(_) => Ok(pop(values, search)),
+        Command::PopFront => Ok(pop_end(fields, head.front)),
+        Command::PopBack => Ok(pop_end(fields, head.back)),
+        Command::Put { code, stamp, value } => put(
+            head,
+            values,
+            search,
+            room,
+            plain_row(code, stamp, value),
+        ),
         Command::PutWithWeight {
             code,
             stamp,
@@ -523,26 +517,41 @@ pub fn decide(view: &View<'_>, room: usize, command: Command) -> Decision
                 weight,
             },
         ),
-        Command::Clear => Decision {
+        Command::Clear => Ok(Decision {
             answer: Answer::Count(live),
             plan: Plan::Clear,
-        },
+        }),
         Command::Retain(rule) => retain(view, room, rule),
         Command::Resize(capacity) => resize(view, room, capacity),
         Command::PutOrModify {
             code,
             stamp,
             amount,
-        } => put_or_modify(head, values, search, room, code, stamp, amount),
+        } => put_or_modify(head, values, search, room, plain_row(code, stamp, amount)),
         Command::TryPutOrModify {
             code,
             stamp,
             amount,
             ceiling,
-        } => try_put_or_modify(head, values, search, room, code, stamp, amount, ceiling),
+        } => try_put_or_modify(
+            head,
+            values,
+            search,
+            room,
+            plain_row(code, stamp, amount),
+            ceiling,
+        ),
         Command::GetMut { value, .. } => get_mut(head, values, search, value),
         Command::PeekMut { value, .. } => peek_mut(head, values, search, value),
         Command::FrontMut(value) => set_end(head.kind, values, head.front, value),
         Command::BackMut(value) => set_end(head.kind, values, head.back, value),
     }
+}
+
+// Decides a call, with so many rows lent.
+pub fn decide(view: &View<'_>, room: usize, command: Command) -> Decision
+    requires { Sound (seen view.now) }
+    ensures { Settles (Means (seen view.now)) (verdict command) room result }
+{
+    settle(view, room, command).unwrap_or_else(Decision::refuse)
 }

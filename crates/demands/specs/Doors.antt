@@ -1,13 +1,13 @@
 -- Runs at the doors that callers use: `door::call` of any command, and the lines of a script.
 -- Assumes nothing.
-use Rattle.std.specs.Prelude.{ℕ, List, [], ◌∷◌, ◌≡◌}
+use Rattle.std.specs.Prelude.{ℕ, List, [], ◌∷◌, Option, Some, None, ◌≡◌}
 use Rattle.head.specs.declared.Answer.{Answer}
 use Rattle.head.specs.declared.Answer.TheVariants.{Done}
 use Rattle.head.specs.Fields.{Fields}
 use Rattle.plan.specs.States.{State}
 use Rattle.door.specs.Served.{Calls}
 use Rattle.script_read.specs.declared.Line.{Line}
-use Rattle.script_read.specs.declared.Line.TheVariants.{Open, Call, Unknown}
+use Rattle.script_read.specs.declared.Line.TheVariants.{Open, Call}
 use Rattle.script_read.specs.Grammar.{understood}
 use Rattle.script_turn.specs.Turned.{Turns}
 use Rattle.script_play.specs.Playing.{Lent, InTurn, none, more}
@@ -24,17 +24,17 @@ DoorRun s (a ∷ as') = Calls a.asked.command s a.left a.asked.rows a.rows a.ans
 
 -- a line carried out: the row lists at hand, what it answered, and the row lists and the state that it left
 pub record Played : Type 0 where
-  pub line : Line
+  pub line : Option Line
   pub lent : Fields
   pub answer : Answer
   pub rows : Fields
   pub left : State
 
 -- no opening, or one that was refused
-abbrev pub GoesOn : Line → Answer → Type 0
-GoesOn (Open kind c n) a = a ≡ Done 0 → ⊥
-GoesOn (Call m) a = Unit {0}
-GoesOn Unknown a = Unit {0}
+abbrev pub GoesOn : Option Line → Answer → Type 0
+GoesOn (Some (Open kind c n)) a = a ≡ Done 0 → ⊥
+GoesOn (Some (Call m)) a = Unit {0}
+GoesOn None a = Unit {0}
 
 -- the turns of a script from the state s on, up to the next opening that is accepted
 abbrev pub ScriptRun : State → List Played → Type 0
@@ -42,10 +42,10 @@ ScriptRun s [] = Unit {0}
 ScriptRun s (a ∷ as') = Turns a.line s a.left a.lent a.rows a.answer × GoesOn a.line a.answer × ScriptRun a.left as'
 
 -- the call that a line is, before those that follow
-abbrev pub call_of : Line → Played → List Made → List Made
-call_of (Open kind c n) a ms = ms
-call_of (Call m) a ms = record { asked = record { command = m; rows = a.lent }; answer = a.answer; rows = a.rows; left = a.left } ∷ ms
-call_of Unknown a ms = ms
+abbrev pub call_of : Option Line → Played → List Made → List Made
+call_of (Some (Open kind c n)) a ms = ms
+call_of (Some (Call m)) a ms = record { asked = record { command = m; rows = a.lent }; answer = a.answer; rows = a.rows; left = a.left } ∷ ms
+call_of None a ms = ms
 
 -- the calls among the lines of a script; refused openings and lines that are not understood are none
 abbrev pub calls_in : List Played → List Made

@@ -1,3 +1,1 @@
-pub mod Copying
-pub mod Cutting
 pub mod Recording

@@ -4,7 +4,7 @@ use Prim.Native.Nat.{ℕ, suc, ◌≤◌, ◌<◌, min}
 use mathlib.Core.Bool.{Bool, true, false, true≢false}
 use mathlib.Core.List.{List, [], ◌∷◌, ◌++◌, append_assoc, append-nil}
 use mathlib.Core.Logic.{◌⊎◌, ⊎_elim}
-use mathlib.Core.Path.{◌≡◌, refl, sym, ap, ◌∙◌}
+use mathlib.Core.Path.{◌≡◌, refl, sym, ap, ◌∙◌, subst}
 use native.Mathlib.Omega.{arith}
 use borrow.Author.Tests.{le-leb}
 use lib.Dec.{leb-zero}
@@ -81,6 +81,11 @@ module _ {f g : Fields} {rows : List Row} (w : Written rows f g) {n : ℕ} (rs :
       rw (le-leb _ _ l, le-leb _ _ p, le-leb _ _ q, le-leb _ _ r, le-leb _ _ s) refl
 
 -- ---- a call, then `save`
+
+-- what `save` says of as many rows as an answer counts, on what is seen of the row lists
+pub saved_of : {n k : ℕ} {f g : Fields} {before after : List Row} {r : Bool} → f ≡ g → n ≡ k → Saved n f before after r → Saved k g before after r
+saved_of {n} {f = f} {g} {before} {after} {r} e q p =
+    subst (λ (x : ℕ). Saved x g before after r) q (subst (λ (x : Fields). Saved n x before after r) e p)
 
 -- a Bool that is true of a sound state and true of any other is true
 settle : {s : State} (b : Bool) → ((c : Cache) → Means s c → b ≡ true) → ((Sound s → ⊥) → b ≡ true) → b ≡ true

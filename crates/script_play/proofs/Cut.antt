@@ -1,17 +1,22 @@
 -- The input is cut into its lines: going on from 0 by `line_end` and `next_line` meets each of them, in order, and nothing else.
 -- Assumes nothing.
-use Prim.Native.Nat.{ℕ, zero, suc, ◌+◌, ◌≤◌, ◌<◌}
-use mathlib.Core.Bool.{Bool, true, false}
+use Prim.Native.Nat.{ℕ, zero, suc, ◌+◌, ◌-◌, ◌≤◌, ◌<◌}
+use mathlib.Core.Bool.{Bool, true, false, cond}
 use mathlib.Core.List.{List, [], ◌∷◌, ◌++◌}
 use mathlib.Core.Logic.{◌⊎◌, inl, inr, ⊎_elim}
 use mathlib.Core.Path.{◌≡◌, refl, sym, ap, ◌∙◌}
 use native.Mathlib.Nat.{zero-add, suc-add}
 use native.Mathlib.Numerals.{add-one}
 use native.Mathlib.Omega.{arith}
-use lib.Dec.{eqb}
-use lib.ListN.{length, take, drop, get_or}
-use lib.Seq.{slice, slice_empty, slice-cons, length-slice, take-take, drop-drop, take-nil, drop-nil}
-use borrow.Author.Tests.{eq-eqb, ne_eqb, eqb-true}
+use lib.Dec.{eqb, ltb}
+use lib.ListN.{length, take, drop}
+use lib.Seq.{slice, length-slice, take-take, drop-drop, take-nil, drop-nil}
+use borrow.Author.Tests.{eqb-true, ltb-false}
+use Rattle.std.specs.List.{position, position_or_len}
+use Rattle.std.specs.Option.{unwrap_or}
+use Rattle.std.proofs.lemmas.List.{drop-take}
+use Rattle.std.proofs.lemmas.List.Recursion.{is_position_or_len}
+use Rattle.std.proofs.lemmas.List.Sums.{prefix_len-le-length}
 use Rattle.script_read.specs.Words.{in_front}
 use Rattle.script_play.specs.Cutting.{newline, lines_of, ended, line_length, line_end, next_line}
 
@@ -53,6 +58,12 @@ take_slice (suc a) m zero l h = absurd (omega arith)
 take_slice (suc a) m (suc n) [] h = take-nil m ∙ ap (λ (k : ℕ). drop (suc a) (take k [])) (sym (suc-add a m))
 take_slice (suc a) m (suc n) (x ∷ xs) h = take_slice a m n xs (omega arith) ∙ ap (λ (k : ℕ). drop (suc a) (take k (x ∷ xs))) (sym (suc-add a m))
 
+-- a part of a list, as a slice gives it
+pub part_is : (l : List ℕ) (a z : ℕ) → a ≤ z → take (z - a) (drop a l) ≡ slice a z l
+part_is l a z h =
+    let e : a + (z - a) ≡ z = omega arith in
+    sym (drop-take a (z - a) l) ∙ ap (λ (k : ℕ). drop a (take k l)) e
+
 -- ---- the lines with their newlines
 
 front_ended : (b x : ℕ) (xs : List ℕ) → ended (in_front b (lines_of (x ∷ xs))) ≡ b ∷ ended (lines_of (x ∷ xs))
@@ -75,21 +86,29 @@ covered (b ∷ (x ∷ xs)) =
 -- ---- where a line ends
 
 module _ (input : List ℕ) (n : ℕ) where
-  pub ends_last : (at : ℕ) → at ≤ n → n ≤ at → line_end input at n ≡ at
-  unfolding line_length
-  ends_last at p q = let e : at ≡ n = omega arith in rw (e, slice_empty n input) (omega arith)
-
   pub ends_inside : n ≤ length input → (at : ℕ) → at ≤ n → line_end input at n ≤ n
   ends_inside k at h = omega (arith, line_most (slice at n input), length-slice at n input k)
 
-  module _ (k : n ≤ length input) (at : ℕ) (h : at < n) where
-    pub ends_here : get_or input at 0 ≡ newline → line_end input at n ≡ at
-    unfolding line_length
-    ends_here q = rw (slice-cons at n input 0 h k, eq-eqb (get_or input at 0) newline q) (omega arith)
+-- whether a byte ends a line
+abbrev pub is_newline : ℕ → Bool
+is_newline b = eqb b newline
 
-    pub ends_later : (get_or input at 0 ≡ newline → ⊥) → line_end input at n ≡ line_end input (at + 1) n
-    unfolding line_length
-    ends_later q = rw (slice-cons at n input 0 h k, ne_eqb (get_or input at 0) newline q, add-one at) (omega arith)
+none_long : line_length [] ≡ 0
+unfolding line_length
+none_long = refl
+
+later_long : (b : ℕ) (bs : List ℕ) → line_length (b ∷ bs) ≡ cond (is_newline b) 0 (1 + line_length bs)
+unfolding line_length
+later_long b bs = ap (λ (n : ℕ). cond (is_newline b) 0 n) (omega arith)
+
+-- a line is as long as the place of its newline says, or as what is left
+pub length_found : (bs : List ℕ) → unwrap_or (position is_newline bs) (length bs) ≡ line_length bs
+length_found bs =
+    let e = is_position_or_len line_length is_newline none_long later_long bs in
+    let most : position_or_len is_newline bs ≤ length bs = prefix_len-le-length _ bs in
+    split (ltb (position_or_len is_newline bs) (length bs))
+    (λ t. rw (t, e))
+    (λ t. rw t (omega (arith, ltb-false (position_or_len is_newline bs) (length bs) t)))
 
 -- ---- going on from line to line
 

@@ -7,16 +7,15 @@ use mathlib.Core.Path.{◌≡◌, refl, ap, ◌∙◌}
 use native.Mathlib.Omega.{arith}
 use lib.ListN.{length, take, drop, length-drop}
 use lib.Seq.{slice}
-use Rattle.head.specs.declared.Head.{Head}
+use Rattle.head.specs.Fields.{Fields}
+use Rattle.plan.specs.States.{State}
 use Rattle.head.specs.declared.Answer.{Answer}
-use Rattle.head.specs.Fresh.{fresh_head}
 use Rattle.door.specs.Served.{shortest}
 use Rattle.script_write.specs.Lines.{most_line}
-use Rattle.script_turn.specs.Took.{Takes}
 use Rattle.script_digits.proofs.Laying.{laid_size}
 use Rattle.script_play.specs.Cutting.{lines_of, line_end, next_line}
-use Rattle.script_play.specs.Playing.{Plays, Lent, lent, Carried, InTurn, none, more, Played}
-use Rattle.script_play.proofs.Cut.{line_start, ends_inside, line_here, none_left}
+use Rattle.script_play.specs.Playing.{Plays, Lent, handed, Carried, InTurn, none, more, Played}
+use Rattle.script_play.proofs.Cut.{part_is, line_start, ends_inside, line_here, none_left}
 use Rattle.script_play.proofs.Room.{room_stays}
 
 -- one line more
@@ -40,17 +39,15 @@ pub record Going (input : List ℕ) (n : ℕ) (x y : Lent) (from : ℕ) (written
   pub place : written ≡ true → from ≡ line_start input n line
   pub stopped : written ≡ false → n ≤ from
 
-pub going_first : {input : List ℕ} {n : ℕ} {h : Head} {codes stamps values weights nexts prevs stack cells row_codes rowStamps rowValues rowWeights out : List ℕ}
-    → Plays input n (lent h codes stamps values weights nexts prevs stack cells row_codes rowStamps rowValues rowWeights out).rows out
-    → h ≡ fresh_head 0 0 0
-    → Going input n (lent (fresh_head 0 0 0) codes stamps values weights nexts prevs stack cells row_codes rowStamps rowValues rowWeights out) (lent h codes stamps values weights nexts prevs stack cells row_codes rowStamps rowValues rowWeights out) 0 true
-going_first p e = record {
+pub going_first : {input : List ℕ} {n : ℕ} {s : State} {rows : Fields} {out : List ℕ} → Plays input n rows out
+    → Going input n (handed s rows out) (handed s rows out) 0 true
+going_first p = record {
   inside = p.inside;
   short = p.short;
   room = p.room;
   line = 0;
   answers = [];
-  turns = rw e none;
+  turns = none;
   place = λ z. refl;
   stopped = λ z. absurd (true≢false z);
 }
@@ -91,12 +88,12 @@ module _ {input : List ℕ} {n : ℕ} {x y : Lent} {from : ℕ} {written : Bool}
       inside : to ≤ n
       inside = omega (arith, ends_inside input n g.inside from (omega arith))
 
-      pub going_takes : Takes input from to y.rows y.out
-      going_takes = record {
-        ordered = ordered;
-        inside = omega (arith, inside, g.inside);
-        room = g.room;
-      }
+      pub going_inside : to ≤ length input
+      going_inside = omega (arith, inside, g.inside)
+
+      -- the bytes of the line, as a part of the input
+      pub going_line : take (to - from) (drop from input) ≡ slice from to input
+      going_line = part_is input from to ordered
 
       pub going_further : (to ≤ n) × (n ≤ 32768)
       going_further = (inside, g.short)
@@ -105,7 +102,7 @@ module _ {input : List ℕ} {n : ℕ} {x y : Lent} {from : ℕ} {written : Bool}
         pub going_less : n - next < n - from
         going_less = omega (arith, further w ordered h m)
 
-        pub going_on : {z : Lent} {a : Answer} {size : ℕ} → Carried (slice from to input) y a size z
+        pub going_on : {z : Lent} {a : Answer} {size : ℕ} → Carried (take (to - from) (drop from input)) y a size z
             → length z.rows.codes ≡ length y.rows.codes
             → length z.rows.stamps ≡ length y.rows.stamps
             → length z.rows.values ≡ length y.rows.values
@@ -121,7 +118,7 @@ module _ {input : List ℕ} {n : ℕ} {x y : Lent} {from : ℕ} {written : Bool}
               room = room_stays y.rows z.rows y.out z.out p q r s (laid_size t.text) g.room;
               line = suc g.line;
               answers = g.answers ++ (a ∷ []);
-              turns = rw (take_on g.line (lines_of (take n input)) cut) (turns_on (slice from to input) z g.turns t);
+              turns = rw (take_on g.line (lines_of (take n input)) cut) (turns_on (slice from to input) z g.turns (rw going_line at t));
               place = λ k. m ∙ ap (λ (v : Bool). next_line v to n) k ∙ rw (e, b);
               stopped = λ k. omega (arith, m ∙ ap (λ (v : Bool). next_line v to n) k);
             }

@@ -1,6 +1,7 @@
 -- Before the first opening that is accepted no cache is described, so every call is refused with 2 and nothing is touched.
 -- Assumes nothing.
 use Prim.Native.Nat.{ℕ}
+use Rattle.std.specs.Prelude.{Option, Some, None}
 use mathlib.Core.Bool.{Bool, true, false, cond, ◌&&◌}
 use mathlib.Core.List.{List}
 use mathlib.Core.Logic.{◌⊎◌, inl, inr, ⊎_elim}
@@ -19,7 +20,7 @@ use Rattle.model.specs.Perform as model
 use Rattle.plan.specs.States.{State, Sound}
 use Rattle.opening.specs.Begun.{spacious}
 use Rattle.script_read.specs.declared.Line.{Line}
-use Rattle.script_read.specs.declared.Line.TheVariants.{Open, Call, Unknown}
+use Rattle.script_read.specs.declared.Line.TheVariants.{Open, Call}
 use Rattle.script_read.specs.Grammar.{understood}
 use Rattle.script_turn.specs.Turned.{Turns}
 use Rattle.script_play.specs.Playing.{Lent, InTurn, none, more}
@@ -38,17 +39,17 @@ unfolding opening
 opening_either kind c n long = either (allowed kind c n && long) (model.opened (fresh (kind_of kind) c n)) (model.refused NotOpened)
 
 -- a line from such a head: an opening that is accepted, or refused with nothing touched
-pub line_unopened : (l : Line) {s t : State} {rows rows' : Fields} {a : Answer} → s.head ≡ fresh_head 0 0 0 → Turns l s t rows rows' a
+pub line_unopened : (l : Option Line) {s t : State} {rows rows' : Fields} {a : Answer} → s.head ≡ fresh_head 0 0 0 → Turns l s t rows rows' a
     → ((a ≡ Done 0) × (opens l ≡ true)) ⊎ ((a ≡ refusal_of l) × (t ≡ s) × (rows' ≡ rows))
-line_unopened (Open kind c n) {s} e (p, q) =
+line_unopened (Some (Open kind c n)) {s} e (p, q) =
     ⊎_elim (λ o. inl ((p.opens (fresh (kind_of kind) c n) o).0, refl))
     (λ o. let r = p.refuses NotOpened o in inr (r.0, r.1, q))
     (opening_either kind c n (spacious n s))
-line_unopened (Call m) e p =
+line_unopened (Some (Call m)) e p =
     let u = not_sound e in
     let r = p.serves.unsound u in
     inr (r.0, r.1, p.unsound u)
-line_unopened Unknown e p = inr p
+line_unopened None e p = inr p
 
 -- every run from such a head
 pub before_open : {ls : List (List ℕ)} {x z : Lent} {said : List Answer} → InTurn ls x said z → x.state.head ≡ fresh_head 0 0 0 → Unopened ls x said z

@@ -1,11 +1,9 @@
 -- What playing an input needs, and what it comes to: the lines carried out, one after another.
 -- Assumes nothing.
 use Rattle.std.specs.Prelude.{ℕ, suc, ◌*◌, ◌≤◌, Bool, true, List, [], ◌∷◌, ◌≡◌, length, take}
-use Rattle.head.specs.declared.Head.{Head}
 use Rattle.head.specs.declared.Answer.{Answer}
 use Rattle.head.specs.Fields.{Fields}
-use Rattle.store.specs.State.{fields}
-use Rattle.plan.specs.States.{State, state}
+use Rattle.plan.specs.States.{State}
 use Rattle.door.specs.Served.{shortest}
 use Rattle.script_write.specs.Lines.{most_line}
 use Rattle.script_read.specs.Grammar.{understood}
@@ -24,13 +22,9 @@ pub record Lent : Type 0 where
   pub rows : Fields
   pub out : List ℕ
 
--- a head and thirteen lists so gathered
-abbrev pub lent : Head → List ℕ → List ℕ → List ℕ → List ℕ → List ℕ → List ℕ → List ℕ → List ℕ → List ℕ → List ℕ → List ℕ → List ℕ → List ℕ → Lent
-lent h codes stamps values weights nexts prevs stack cells row_codes rowStamps rowValues rowWeights out = record {
-  state = state h codes stamps values weights nexts prevs stack cells;
-  rows = fields row_codes rowStamps rowValues rowWeights;
-  out = out;
-}
+-- so gathered
+abbrev pub handed : State → Fields → List ℕ → Lent
+handed s rows out = record { state = s; rows = rows; out = out }
 
 -- a line carried out, from x to y: what `take` promises of it
 abbrev pub Carried : List ℕ → Lent → Answer → ℕ → Lent → Type 0

@@ -2,12 +2,12 @@
 #![tactic(auto)]
 
 ghost use Rattle.std.specs.Prelude.{◌≡◌, ◌≤◌, length, IfOk};
-ghost use Rattle.head.specs.Fresh.{fresh_head};
-ghost use Rattle.store.specs.State.{fields};
+ghost use Rattle.state.specs.State.{held, lent};
 ghost use Rattle.script_play.specs.Cutting.{line_end, next_line};
-ghost use Rattle.script_play.specs.Playing.{Plays, Played, lent};
+ghost use Rattle.script_play.specs.Playing.{Plays, Played, handed};
 
 use head::Head;
+use state::{Fields, Links, State};
 use std::io;
 use std::io::Read;
 
@@ -16,14 +16,9 @@ fn line_end(input: &[u8], from: usize, n: usize) -> usize
     requires { (from ≤ n) × (n ≤ length input.now) }
     ensures { result ≡ line_end input.now from n }
 {
-    let mut at = from;
-    while at < n {
-        if input[at] == b'\n' {
-            return at;
-        }
-        at += 1;
-    }
-    at
+    let rest = &input[from..n];
+    let newline = rest.iter().position(|byte| *byte == b'\n');
+    from + newline.unwrap_or(rest.len())
 }
 
 // Where the next line begins; at the end of the input where nothing can be written any more.
@@ -31,68 +26,31 @@ fn next_line(written: bool, to: usize, n: usize) -> usize
     requires { (to ≤ n) × (n ≤ 32768) }
     ensures { result ≡ next_line written to n }
 {
-    let past = to + 1;
-    if written { past } else { n }
+    if written { to + 1 } else { n }
 }
 
-// What a run leaves beside the lists: the head, and whether every answer was written.
-#[derive(Clone, Copy)]
-pub struct Left {
-    pub head: Head,
-    pub written: bool,
-}
-
-// Carries out the lines of the input, one after another, until one's answer cannot be written. Before the first opening the head describes no cache.
+// Carries out the lines of the input, one after another, until one's answer cannot be written, and says whether every answer was written.
 fn play(
     rt: &impl Print,
     input: &[u8],
     n: usize,
-    codes: &mut [u64],
-    stamps: &mut [u32],
-    values: &mut [u64],
-    weights: &mut [u64],
-    next: &mut [u32],
-    prev: &mut [u32],
-    stack: &mut [u32],
-    cells: &mut [u32],
-    row_codes: &mut [u64],
-    row_stamps: &mut [u32],
-    row_values: &mut [u64],
-    row_weights: &mut [u64],
+    state: &mut State<'_>,
+    rows: &mut Fields<'_>,
     out: &mut [u8],
-) -> Left
-    requires { Plays input.now n (fields row_codes.old row_stamps.old row_values.old row_weights.old) out.old }
-    ensures { Played input.now n (lent (fresh_head 0 0 0) codes.old stamps.old values.old weights.old next.old prev.old stack.old cells.old row_codes.old row_stamps.old row_values.old row_weights.old out.old) (lent result.head codes.new stamps.new values.new weights.new next.new prev.new stack.new cells.new row_codes.new row_stamps.new row_values.new row_weights.new out.new) result.written }
+) -> bool
+    requires { Plays input.now n (held rows.old) out.old }
+    ensures { Played input.now n (handed (lent state.old) (held rows.old) out.old) (handed (lent state.new) (held rows.new) out.new) result }
 {
-    let mut head = Head::fresh(0, 0, 0);
     let mut written = true;
     let mut from: usize = 0;
+    // It goes on by `next_line`, which docs/PROOFS.md names; a cut into all lines would not stop at an answer that cannot be written.
     while from < n {
         let to = line_end(input, from, n);
-        let done = script_turn::take(
-            input,
-            from,
-            to,
-            head,
-            codes,
-            stamps,
-            values,
-            weights,
-            next,
-            prev,
-            stack,
-            cells,
-            row_codes,
-            row_stamps,
-            row_values,
-            row_weights,
-            out,
-        );
+        let done = script_turn::take(&input[from..to], state, rows, out);
         written = rt.write_all(&out[..done.size]).is_ok();
-        head = done.head;
         from = next_line(written, to, n);
     }
-    Left { head, written }
+    written
 }
 
 // Reads until the buffer is full or the input ends, and answers how many bytes it put at the start of the buffer.
@@ -100,6 +58,7 @@ fn read_full(source: &mut impl Read, buffer: &mut [u8]) -> io::Result<usize>
     ensures { IfOk result (λ n. n ≤ length buffer.new) }
 {
     let mut done: usize = 0;
+    // A source may give fewer bytes than asked, and `read_to_end` wants a Vec: 01 asks for fixed memory.
     while done < buffer.len() {
         let n = source.read(&mut buffer[done..])?;
         if n == 0 {
@@ -118,37 +77,30 @@ pub fn desk(rt: &impl Print, source: &mut impl Read) -> io::Result<()> {
     if 32768 < n {
         return rt.write_all(b"no 8\n");
     }
-    let mut codes = [0u64; 256];
-    let mut stamps = [0u32; 256];
-    let mut values = [0u64; 256];
-    let mut weights = [0u64; 256];
-    let mut next = [Head::NONE; 256];
-    let mut prev = [Head::NONE; 256];
-    let mut stack = [Head::NONE; 256];
-    let mut cells = [Head::NONE; 512];
-    let mut row_codes = [0u64; 256];
-    let mut row_stamps = [0u32; 256];
-    let mut row_values = [0u64; 256];
-    let mut row_weights = [0u64; 256];
+    // Before the first opening the head describes no cache.
+    let mut state = State {
+        head: Head::fresh(0, 0, 0),
+        fields: Fields {
+            codes: &mut [0; 256],
+            stamps: &mut [0; 256],
+            values: &mut [0; 256],
+            weights: &mut [0; 256],
+        },
+        links: Links {
+            next: &mut [Head::NONE; 256],
+            prev: &mut [Head::NONE; 256],
+            stack: &mut [Head::NONE; 256],
+        },
+        cells: &mut [Head::NONE; 512],
+    };
+    let mut rows = Fields {
+        codes: &mut [0; 256],
+        stamps: &mut [0; 256],
+        values: &mut [0; 256],
+        weights: &mut [0; 256],
+    };
     // The lines of 256 rows, and a closing line.
     let mut out = [0u8; 33024];
-    play(
-        rt,
-        &input,
-        n,
-        &mut codes,
-        &mut stamps,
-        &mut values,
-        &mut weights,
-        &mut next,
-        &mut prev,
-        &mut stack,
-        &mut cells,
-        &mut row_codes,
-        &mut row_stamps,
-        &mut row_values,
-        &mut row_weights,
-        &mut out,
-    );
+    play(rt, &input, n, &mut state, &mut rows, &mut out);
     Ok(())
 }

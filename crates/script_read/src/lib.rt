@@ -80,11 +80,10 @@ fn read_number(word: &[u8]) -> Option<u64>
 }
 
 // The words behind a word as numbers.
-fn read_numbers(rest: &[u8]) -> Option<Numbers>
+fn read_numbers(mut rest: &[u8]) -> Option<Numbers>
     ensures { result ≡ numbers_of (words_past rest.now) }
 {
     let mut numbers = Numbers::Nought;
-    let mut rest = rest;
     while let Some((word, behind)) = next_word(rest) {
         numbers = numbers.with(read_number(word)?)?;
         rest = behind;

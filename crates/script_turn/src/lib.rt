@@ -30,14 +30,16 @@ pub fn carry_out(state: &mut State<'_>, rows: &mut Fields<'_>, line: Option<Line
     ensures row_lists { SameFields rows.old rows.new }
     ensures turns { Turns line (lent state.old) (lent state.new) (held rows.old) (held rows.new) result }
 {
+    let Some(line) = line else {
+        return Answer::No(Refusal::NotUnderstood);
+    };
     match line {
-        Some(Line::Open {
+        Line::Open {
             kind,
             capacity,
             slots,
-        }) => begin(opening::open(kind, capacity, slots, state)),
-        Some(Line::Call(command)) => door::call(state, rows, command),
-        None => Answer::No(Refusal::NotUnderstood),
+        } => begin(opening::open(kind, capacity, slots, state)),
+        Line::Call(command) => door::call(state, rows, command),
     }
 }
 

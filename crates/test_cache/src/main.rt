@@ -222,7 +222,7 @@ fn act(
             row_stamps,
             row_values,
             row_weights,
-            line_of(request),
+            Some(line_of(request)),
         ),
     }
 }

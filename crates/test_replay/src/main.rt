@@ -136,8 +136,6 @@ fn play(
         let (line, recorded) = first_line(rest);
         let done = script_turn::take(
             line,
-            0,
-            line.len(),
             head,
             codes,
             stamps,

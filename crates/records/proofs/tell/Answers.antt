@@ -1,26 +1,15 @@
--- `records::tell` meets its contract: `tell_within`, and the rows saved.
+-- `records::tell` meets its contract: a listing within the records, and the rows saved.
 -- Assumes nothing.
 use Rattle.std.proofs.Common.{ℕ, subst}
-use Rattle.store.specs.State.{fields}
-use Rattle.plan.specs.States.{state}
-use Rattle.records.specs.Saving.{Saved}
-use Rattle.records.proofs.Recording.{tells_into}
+use Rattle.head.specs.Fields.{Fields}
+use Rattle.state.specs.State.{held, seen}
+use Rattle.records.proofs.Recording.{tells_into, saved_of}
 use Rattle.records.proofs.tell.Goals as goal
 
-pub returns : goal.returns
-returns c =
+pub returns-clause-tells : goal.returns-clause-tells
+returns-clause-tells c =
     let s = c.args in
     let w = c.tell_within-answer in
-    let rows = fields w.new.row_codes w.new.row_stamps w.new.row_values w.new.row_weights in
-    let saved = subst (λ (n : ℕ). Saved n rows s.records.now c.save.new.records c.save.result) c.rows-rows.ensures c.save.ensures in
-    tells_into
-    s.command
-    (state s.head s.codes.now s.stamps.now s.values.now s.weights.now s.next.now s.prev.now s.stack.now s.cells.now)
-    (fields s.row_codes.now s.row_stamps.now s.row_values.now s.row_weights.now)
-    rows
-    w.result
-    s.records.now
-    c.save.new.records
-    c.save.result
-    saved
-    w.ensures
+    tells_into s.command (seen s.view.now) (held s.rows.now) (held w.new.rows) w.result s.records.now c.save.new.records c.save.result
+    (saved_of c.view.ensures c.rows.ensures c.save.ensures)
+    w.ensures.tells

@@ -1,27 +1,25 @@
--- `script_play::line_end` meets its contract. The invariant: the line ends where what is left of it ends. The measure is how many bytes are left.
+-- `script_play::line_end` meets its contract: the line ends at the first newline, or with the input.
 -- Assumes nothing.
-use mathlib.Core.Path.{refl, sym, ◌∙◌}
-use native.Mathlib.Omega.{arith}
-use Rattle.script_play.proofs.Cut.{ends_here, ends_later, ends_last}
+use Prim.Native.Nat.{ℕ, ◌+◌, ◌-◌}
+use mathlib.Core.Path.{◌≡◌, ap, ◌∙◌}
+use lib.ListN.{length, take, drop}
+use Rattle.std.proofs.Common.{rules, tests}
+use Rattle.std.specs.List.{position}
+use Rattle.std.specs.Prelude.{Option}
+use Rattle.std.specs.Option.{unwrap_or}
+use Rattle.std.proofs.lemmas.Iterator.{YieldsList-from_slice}
+use Rattle.std.proofs.lemmas.Iterator.Search.{position_from_yields_List}
+use Rattle.script_play.specs.Cutting.{line_length}
+use Rattle.script_play.proofs.Cut.{is_newline, length_found, part_is}
 use Rattle.script_play.proofs.line_end.Goals as goal
 
-pub loop-at-init : goal.loop-at-init
-loop-at-init c = (omega (arith, c.requires.0), refl)
-
-pub bounds-input-at : goal.bounds-input-at
-bounds-input-at c = omega (arith, c.loop-at-test.true, c.requires.1)
-
-pub returns-then-input-at-eq10 : goal.returns-then-input-at-eq10
-returns-then-input-at-eq10 c = sym (ends_here _ _ c.requires.1 _ c.loop-at-test.true c.if-input-at-eq10.true) ∙ c.loop-at.invariant.1
-
-pub overflow_add-at : goal.overflow_add-at
-overflow_add-at c = omega (arith, c.loop-at-test.true, c.ranges)
-
-pub loop-at-smaller : goal.loop-at-smaller
-loop-at-smaller c = omega (arith, c.loop-at-test.true)
-
-pub loop-at-preserved : goal.loop-at-preserved
-loop-at-preserved c = (omega (arith, c.loop-at-test.true), sym (ends_later _ _ c.requires.1 _ c.loop-at-test.true c.if-input-at-eq10.false) ∙ c.loop-at.invariant.1)
-
 pub returns : goal.returns
-returns c = sym (ends_last _ _ _ c.loop-at.invariant.0 c.loop-at-test.false) ∙ c.loop-at.invariant.1
+returns c =
+    let part = take (c.args.n - c.args.from) (drop c.args.from c.args.input.now) in
+    let found : c.position-newline.result ≡ position is_newline part =
+    position_from_yields_List is_newline _ _ _ c.position-newline.ensures.ran (YieldsList-from_slice _ c.iter.ensures.rest) (λ x b q k. search (rules, tests)) in
+    ap (λ (k : ℕ). c.args.from + k)
+    (c.unwrap_or.ensures
+    ∙ ap (λ (r : Option ℕ). unwrap_or r (length part)) found
+    ∙ length_found part
+    ∙ ap line_length (part_is c.args.input.now c.args.from c.args.n c.requires.0))

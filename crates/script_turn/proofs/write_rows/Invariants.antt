@@ -1,12 +1,8 @@
--- `script_turn::write_rows` meets its contract. The measure is how many rows are left.
+-- `script_turn::write_rows` meets its contract: the lines of the first j rows stand in the buffer.
 -- Assumes nothing.
-use Prim.Native.Nat.{◌-◌}
-use Rattle.store.specs.State.{fields}
+use Rattle.state.specs.State.{viewed}
 use Rattle.script_turn.proofs.Replying.{Writing}
 use Rattle.script_turn.proofs.write_rows.Given as goal
 
 abbrev pub invariant-loop-j : goal.invariant-loop-j
-invariant-loop-j l = Writing l.stay (fields l.row_codes l.row_stamps l.row_values l.row_weights) l.n l.initial.buffer l.buffer l.at l.j
-
-abbrev pub decreases-loop-j : goal.decreases-loop-j
-decreases-loop-j l = l.n - l.j
+invariant-loop-j l = Writing l.stay (viewed l.rows) l.n l.initial.buffer l.buffer l.at l.j

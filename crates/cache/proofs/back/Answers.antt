@@ -1,6 +1,0 @@
--- `cache::back` meets its contract: it is `door::read` of its command.
--- Assumes nothing.
-use Rattle.cache.proofs.back.Goals as goal
-
-pub returns : goal.returns
-returns c = c.read.ensures

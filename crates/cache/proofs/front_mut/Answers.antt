@@ -1,6 +1,0 @@
--- `cache::front_mut` meets its contract: it is `door::serve` of its command.
--- Assumes nothing.
-use Rattle.cache.proofs.front_mut.Goals as goal
-
-pub returns : goal.returns
-returns c = c.serve.ensures

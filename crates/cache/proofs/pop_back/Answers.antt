@@ -1,6 +1,0 @@
--- `cache::pop_back` meets its contract: it is `door::serve` of its command.
--- Assumes nothing.
-use Rattle.cache.proofs.pop_back.Goals as goal
-
-pub returns : goal.returns
-returns c = c.serve.ensures
