@@ -1,7 +1,7 @@
 // A plan carried out: the rows that it hands out are written, then the lists change.
 #![tactic(auto)]
 
-ghost use Rattle.state.specs.State.{held, lent, seen, SameFields, SameLists};
+ghost use Rattle.state.specs.State.{held, lent, seen, SameLists, SameRows};
 ghost use Rattle.plan.specs.declared.Plan.TheVariants.{Place, Replace, Fit};
 ghost use Rattle.act.specs.Acted.{Prepared, Acted, Offered, HandedOut};
 
@@ -69,7 +69,7 @@ pub fn act(state: &mut State<'_>, plan: Plan)
 // Writes the rows that a plan hands out.
 pub fn hand_out(view: &View<'_>, plan: Plan, rows: &mut Fields<'_>)
     requires { Offered plan view.now.head (seen view.now).fields (seen view.now).nexts (seen view.now).prevs (held rows.old) }
-    ensures lists { SameFields rows.old rows.new }
+    ensures lists { SameRows rows.old rows.new }
     ensures handed { HandedOut plan view.now.head (seen view.now).fields (seen view.now).nexts (seen view.now).prevs (held rows.old) (held rows.new) }
 {
     let none = Slot(Head::NONE);

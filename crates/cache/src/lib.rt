@@ -5,7 +5,7 @@
 ghost use Rattle.std.specs.Prelude.{◌≡◌};
 ghost use Rattle.head.specs.declared.Command.TheVariants.{Back, BackMut, Capacity, Clear, Contains, Front, FrontMut, Get, GetMut, IsEmpty, IsFull, Len, ListBack, List as ListFront, Peek, PeekMut, Pop, PopBack, PopFront, Put, PutOrModify, PutWithWeight, Resize, Retain, TryPutOrModify, Weight};
 ghost use Rattle.head.specs.Fresh.{fresh_head};
-ghost use Rattle.state.specs.State.{held, lent, seen, SameFields, SameLists};
+ghost use Rattle.state.specs.State.{held, lent, seen, SameLists, SameRows};
 ghost use Rattle.opening.specs.Begun.{Opens, headed, head_left};
 ghost use Rattle.door.specs.Served.{Calls, Reads, Serves, Tells};
 
@@ -86,7 +86,7 @@ pub fn contains(view: &View<'_>, code: Code) -> Answer
 
 // All entries as rows, front to back: `Done`.
 pub fn list(view: &View<'_>, rows: &mut Fields<'_>) -> Answer
-    ensures lists { SameFields rows.old rows.new }
+    ensures lists { SameRows rows.old rows.new }
     ensures tells { Tells ListFront (seen view.now) (held rows.old) (held rows.new) result }
 {
     door::tell(view, rows, Command::List)
@@ -94,7 +94,7 @@ pub fn list(view: &View<'_>, rows: &mut Fields<'_>) -> Answer
 
 // All entries as rows, back to front: `Done`.
 pub fn list_back(view: &View<'_>, rows: &mut Fields<'_>) -> Answer
-    ensures lists { SameFields rows.old rows.new }
+    ensures lists { SameRows rows.old rows.new }
     ensures tells { Tells ListBack (seen view.now) (held rows.old) (held rows.new) result }
 {
     door::tell(view, rows, Command::ListBack)
@@ -181,7 +181,7 @@ pub fn put(
     value: u64,
 ) -> Answer
     ensures lists { SameLists state.old state.new }
-    ensures row_lists { SameFields rows.old rows.new }
+    ensures row_lists { SameRows rows.old rows.new }
     ensures calls { Calls (Put code stamp value) (lent state.old) (lent state.new) (held rows.old) (held rows.new) result }
 {
     door::call(state, rows, Command::Put { code, stamp, value })
@@ -197,7 +197,7 @@ pub fn put_with_weight(
     weight: u64,
 ) -> Answer
     ensures lists { SameLists state.old state.new }
-    ensures row_lists { SameFields rows.old rows.new }
+    ensures row_lists { SameRows rows.old rows.new }
     ensures calls { Calls (PutWithWeight code stamp value weight) (lent state.old) (lent state.new) (held rows.old) (held rows.new) result }
 {
     door::call(
@@ -215,7 +215,7 @@ pub fn put_with_weight(
 // Removes what the rule does not keep and hands it out, front to back: `Done`.
 pub fn retain(state: &mut State<'_>, rows: &mut Fields<'_>, rule: Rule) -> Answer
     ensures lists { SameLists state.old state.new }
-    ensures row_lists { SameFields rows.old rows.new }
+    ensures row_lists { SameRows rows.old rows.new }
     ensures calls { Calls (Retain rule) (lent state.old) (lent state.new) (held rows.old) (held rows.new) result }
 {
     door::call(state, rows, Command::Retain(rule))
@@ -224,7 +224,7 @@ pub fn retain(state: &mut State<'_>, rows: &mut Fields<'_>, rule: Rule) -> Answe
 // Sets the capacity. What no longer fits is handed out, oldest first: `Done`.
 pub fn resize(state: &mut State<'_>, rows: &mut Fields<'_>, capacity: u64) -> Answer
     ensures lists { SameLists state.old state.new }
-    ensures row_lists { SameFields rows.old rows.new }
+    ensures row_lists { SameRows rows.old rows.new }
     ensures calls { Calls (Resize capacity) (lent state.old) (lent state.new) (held rows.old) (held rows.new) result }
 {
     door::call(state, rows, Command::Resize(capacity))
@@ -239,7 +239,7 @@ pub fn put_or_modify(
     amount: u64,
 ) -> Answer
     ensures lists { SameLists state.old state.new }
-    ensures row_lists { SameFields rows.old rows.new }
+    ensures row_lists { SameRows rows.old rows.new }
     ensures calls { Calls (PutOrModify code stamp amount) (lent state.old) (lent state.new) (held rows.old) (held rows.new) result }
 {
     door::call(
@@ -263,7 +263,7 @@ pub fn try_put_or_modify(
     ceiling: u64,
 ) -> Answer
     ensures lists { SameLists state.old state.new }
-    ensures row_lists { SameFields rows.old rows.new }
+    ensures row_lists { SameRows rows.old rows.new }
     ensures calls { Calls (TryPutOrModify code stamp amount ceiling) (lent state.old) (lent state.new) (held rows.old) (held rows.new) result }
 {
     door::call(

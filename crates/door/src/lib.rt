@@ -2,7 +2,7 @@
 #![tactic(auto)]
 
 ghost use Rattle.std.specs.Prelude.{◌≡◌};
-ghost use Rattle.state.specs.State.{held, lent, seen, SameFields, SameLists};
+ghost use Rattle.state.specs.State.{held, lent, seen, SameLists, SameRows};
 ghost use Rattle.plan.specs.States.{Sound};
 ghost use Rattle.door.specs.Served.{Serves, Calls, Reads, Tells, is_reader, is_teller};
 ghost use Rattle.door.specs.Within.{CallsWithin, TellsWithin};
@@ -19,7 +19,7 @@ fn step_within(
 ) -> Answer
     requires { Sound (lent state.old) }
     ensures lists { SameLists state.old state.new }
-    ensures row_lists { SameFields rows.old rows.new }
+    ensures row_lists { SameRows rows.old rows.new }
     ensures calls { CallsWithin command room (lent state.old) (lent state.new) (held rows.old) (held rows.new) result }
 {
     let view = state.view();
@@ -33,7 +33,7 @@ fn step_within(
 pub fn step(state: &mut State<'_>, rows: &mut Fields<'_>, command: Command) -> Answer
     requires { Sound (lent state.old) }
     ensures lists { SameLists state.old state.new }
-    ensures row_lists { SameFields rows.old rows.new }
+    ensures row_lists { SameRows rows.old rows.new }
     ensures calls { Calls command (lent state.old) (lent state.new) (held rows.old) (held rows.new) result }
 {
     let room = rows.room();
@@ -48,7 +48,7 @@ pub fn call_within(
     command: Command,
 ) -> Answer
     ensures lists { SameLists state.old state.new }
-    ensures row_lists { SameFields rows.old rows.new }
+    ensures row_lists { SameRows rows.old rows.new }
     ensures calls { CallsWithin command room (lent state.old) (lent state.new) (held rows.old) (held rows.new) result }
 {
     if !inspect::inspect(&state.view()) {
@@ -60,7 +60,7 @@ pub fn call_within(
 // Any call, whatever the numbers and lists are.
 pub fn call(state: &mut State<'_>, rows: &mut Fields<'_>, command: Command) -> Answer
     ensures lists { SameLists state.old state.new }
-    ensures row_lists { SameFields rows.old rows.new }
+    ensures row_lists { SameRows rows.old rows.new }
     ensures calls { Calls command (lent state.old) (lent state.new) (held rows.old) (held rows.new) result }
 {
     let room = rows.room();
@@ -108,7 +108,7 @@ fn is_teller(form: Form) -> bool
 
 // A call that only reads, listings with their rows included, with room for so many of them. Any other is refused with 8.
 pub fn tell_within(view: &View<'_>, rows: &mut Fields<'_>, room: usize, command: Command) -> Answer
-    ensures lists { SameFields rows.old rows.new }
+    ensures lists { SameRows rows.old rows.new }
     ensures tells { TellsWithin command room (seen view.now) (held rows.old) (held rows.new) result }
 {
     if !inspect::inspect(view) {
@@ -124,7 +124,7 @@ pub fn tell_within(view: &View<'_>, rows: &mut Fields<'_>, room: usize, command:
 
 // A call that only reads, listings with their rows included. Any other is refused with 8.
 pub fn tell(view: &View<'_>, rows: &mut Fields<'_>, command: Command) -> Answer
-    ensures lists { SameFields rows.old rows.new }
+    ensures lists { SameRows rows.old rows.new }
     ensures tells { Tells command (seen view.now) (held rows.old) (held rows.new) result }
 {
     let room = rows.room();

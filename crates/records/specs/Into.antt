@@ -1,17 +1,14 @@
 -- A call whose rows go to a list of records too.
 -- Assumes nothing.
-use Rattle.std.specs.Prelude.{ℕ, min, List, ◌++◌, ◌≡◌, length, drop}
+use Rattle.std.specs.Prelude.{List, ◌++◌, ◌≡◌, length, drop}
 use Rattle.head.specs.declared.Row.{Row}
 use Rattle.head.specs.declared.Answer.{Answer}
 use Rattle.head.specs.declared.Answer.TheVariants.{No}
 use Rattle.head.specs.declared.Refusal.{Refusal}
-use Rattle.head.specs.declared.Refusal.TheVariants.{Unsound}
 use Rattle.head.specs.declared.Command.{Command}
 use Rattle.head.specs.Fields.{Fields}
-use Rattle.head.specs.Forms.{form_of}
 use Rattle.model.specs.Perform.{Cache, perform}
-use Rattle.rows.specs.Written.{Written}
-use Rattle.plan.specs.States.{State, Means, Sound}
+use Rattle.plan.specs.States.{State, Means}
 pub use Rattle.door.specs.Within.{lent, CallsWithin, told_answer, told_rows, TellsWithin}
 
 -- the rows stand at the beginning of the records now, in order, and past them nothing changed

@@ -1,7 +1,7 @@
 // Calls whose rows go to a list of records too: the call is made with no more rows lent than there are records, and its rows are copied.
 #![tactic(auto)]
 
-ghost use Rattle.state.specs.State.{held, lent, seen, viewed, SameFields, SameLists};
+ghost use Rattle.state.specs.State.{held, lent, seen, viewed, SameLists, SameRows};
 ghost use Rattle.records.specs.Saving.{Saved};
 ghost use Rattle.records.specs.Into.{CallsInto, TellsInto};
 
@@ -34,7 +34,7 @@ pub fn call(
     command: Command,
 ) -> Answer
     ensures lists { SameLists state.old state.new }
-    ensures row_lists { SameFields rows.old rows.new }
+    ensures row_lists { SameRows rows.old rows.new }
     ensures calls { CallsInto command (lent state.old) (lent state.new) (held rows.old) (held rows.new) records.old records.new result }
 {
     let answer = door::call_within(state, rows, records.len(), command);
@@ -44,7 +44,7 @@ pub fn call(
 
 // A listing, its rows in the records too.
 pub fn tell(view: &View<'_>, rows: &mut Fields<'_>, records: &mut [Row], command: Command) -> Answer
-    ensures lists { SameFields rows.old rows.new }
+    ensures lists { SameRows rows.old rows.new }
     ensures tells { TellsInto command (seen view.now) (held rows.old) (held rows.new) records.old records.new result }
 {
     let answer = door::tell_within(view, rows, records.len(), command);

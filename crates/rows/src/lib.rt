@@ -4,7 +4,7 @@
 ghost use Rattle.std.specs.Prelude.{◌≡◌, ◌+◌, ◌-◌, ◌<◌, not, length};
 ghost use Rattle.model.specs.Desk.{keeps as keeping};
 ghost use Rattle.model.specs.Codes.{one};
-ghost use Rattle.state.specs.State.{held, seen, SameFields};
+ghost use Rattle.state.specs.State.{held, seen, SameRows};
 ghost use Rattle.rows.specs.Views.{past_at, cost_at, Countable};
 ghost use Rattle.rows.specs.Answers.{Budgeted, Leaves, Read, Removes, Aged, WroteOldest, Offered, Handed, Sweepable, WroteRemoved, Listable, WroteAll, ListableBack, WroteBack};
 
@@ -74,7 +74,7 @@ pub fn removed_by(view: &View<'_>, rule: Rule) -> u32
 // Writes the k oldest entries as rows, oldest first. The entry in the slot to skip counts as gone; NONE skips no slot.
 pub fn write_oldest(view: &View<'_>, k: u32, skip: Slot, rows: &mut Fields<'_>)
     requires { Aged view.now.head (seen view.now).fields (seen view.now).prevs k skip.0 (held rows.old) }
-    ensures lists { SameFields rows.old rows.new }
+    ensures lists { SameRows rows.old rows.new }
     ensures wrote { WroteOldest view.now.head (seen view.now).fields (seen view.now).prevs k skip.0 (held rows.old) (held rows.new) }
 {
     let prev = view.links.prev;
@@ -89,7 +89,7 @@ pub fn write_oldest(view: &View<'_>, k: u32, skip: Slot, rows: &mut Fields<'_>)
 // Writes a row at place n where the rule does not keep it, and answers the place of the next row.
 fn hand_out(rows: &mut Fields<'_>, n: u32, rule: Rule, row: Row) -> u32
     requires { Offered (held rows.old) n rule row }
-    ensures lists { SameFields rows.old rows.new }
+    ensures lists { SameRows rows.old rows.new }
     ensures handed { Handed n rule row result (held rows.old) (held rows.new) }
 {
     if rules::keeps(rule, row) {
@@ -102,7 +102,7 @@ fn hand_out(rows: &mut Fields<'_>, n: u32, rule: Rule, row: Row) -> u32
 // Writes the entries that a rule does not keep as rows, front to back.
 pub fn write_removed(view: &View<'_>, rule: Rule, rows: &mut Fields<'_>)
     requires { Sweepable view.now.head (seen view.now).fields (seen view.now).nexts rule (held rows.old) }
-    ensures lists { SameFields rows.old rows.new }
+    ensures lists { SameRows rows.old rows.new }
     ensures wrote { WroteRemoved view.now.head (seen view.now).fields (seen view.now).nexts rule (held rows.old) (held rows.new) }
 {
     let mut slot = view.head.front;
@@ -117,7 +117,7 @@ pub fn write_removed(view: &View<'_>, rule: Rule, rows: &mut Fields<'_>)
 // Writes all entries as rows, front to back: what a rule removes that keeps none.
 pub fn write_all(view: &View<'_>, rows: &mut Fields<'_>)
     requires { Listable view.now.head (seen view.now).fields (seen view.now).nexts (held rows.old) }
-    ensures lists { SameFields rows.old rows.new }
+    ensures lists { SameRows rows.old rows.new }
     ensures wrote { WroteAll view.now.head (seen view.now).fields (seen view.now).nexts (held rows.old) (held rows.new) }
 {
     let any = Rule::stamp(0);
@@ -127,7 +127,7 @@ pub fn write_all(view: &View<'_>, rows: &mut Fields<'_>)
 // Writes all entries as rows, back to front.
 pub fn write_all_back(view: &View<'_>, rows: &mut Fields<'_>)
     requires { ListableBack view.now.head (seen view.now).fields (seen view.now).prevs (held rows.old) }
-    ensures lists { SameFields rows.old rows.new }
+    ensures lists { SameRows rows.old rows.new }
     ensures wrote { WroteBack view.now.head (seen view.now).fields (seen view.now).prevs (held rows.old) (held rows.new) }
 {
     write_oldest(view, view.head.live, Slot(Head::NONE), rows);

@@ -2,7 +2,7 @@
 #![tactic(auto)]
 
 ghost use Rattle.std.specs.Prelude.{◌≡◌};
-ghost use Rattle.state.specs.State.{held, lent, viewed, SameFields, SameLists};
+ghost use Rattle.state.specs.State.{held, lent, viewed, SameLists, SameRows};
 ghost use Rattle.script_digits.specs.Laid.{Laid};
 ghost use Rattle.script_write.specs.Lines.{row_word, row_lines};
 ghost use Rattle.script_read.specs.Grammar.{understood};
@@ -27,7 +27,7 @@ fn begin(opened: Result<Head, Refusal>) -> Answer
 // Carries a line out. What is not understood is refusal 8, whatever the state.
 pub fn carry_out(state: &mut State<'_>, rows: &mut Fields<'_>, line: Option<Line>) -> Answer
     ensures lists { SameLists state.old state.new }
-    ensures row_lists { SameFields rows.old rows.new }
+    ensures row_lists { SameRows rows.old rows.new }
     ensures turns { Turns line (lent state.old) (lent state.new) (held rows.old) (held rows.new) result }
 {
     let Some(line) = line else {
@@ -93,7 +93,7 @@ pub struct Turned {
 pub fn take(line: &[u8], state: &mut State<'_>, rows: &mut Fields<'_>, out: &mut [u8]) -> Turned
     requires { Takes (held rows.old) out.old }
     ensures lists { SameLists state.old state.new }
-    ensures row_lists { SameFields rows.old rows.new }
+    ensures row_lists { SameRows rows.old rows.new }
     ensures took { Took (understood line.now) (lent state.old) (lent state.new) (held rows.old) (held rows.new) result.answer result.size out.old out.new }
 {
     let understood = script_read::understand(line);

@@ -1,6 +1,6 @@
 -- What a call is lent, as values: a head with eight lists is a state, and four row lists are fields.
 -- Assumes nothing.
-use Rattle.std.specs.Prelude.{ℕ, List, ◌≡◌}
+use Rattle.std.specs.Prelude.{ℕ, List, ◌≡◌, length}
 use Rattle.head.specs.declared.Head.{Head}
 use Rattle.head.specs.Fields.{Fields}
 use Rattle.state.specs.declared.Fields.{Fields as LentFields}
@@ -59,6 +59,14 @@ pub record SameFields (f g : LentFields) : Type 0 where
   pub stamps : g.stamps.ghost_name ≡ f.stamps.ghost_name
   pub values : g.values.ghost_name ≡ f.values.ghost_name
   pub weights : g.weights.ghost_name ≡ f.weights.ghost_name
+
+-- the same of lists that take rows, which are as long as they were besides
+pub record SameRows (f g : LentFields) : Type 0 where
+  pub lists : SameFields f g
+  pub codes : length g.codes.now ≡ length f.codes.now
+  pub stamps : length g.stamps.now ≡ length f.stamps.now
+  pub values : length g.values.now ≡ length f.values.now
+  pub weights : length g.weights.now ≡ length f.weights.now
 
 -- the same of the three lists of links
 pub record SameLinks (k l : Links) : Type 0 where

@@ -1,9 +1,6 @@
 -- `records::call` meets its contract: a call within the records, and the rows saved.
 -- Assumes nothing.
-use Rattle.std.proofs.Common.{ℕ, subst}
-use Rattle.head.specs.Fields.{Fields}
 use Rattle.state.specs.State.{lent, held}
-use Rattle.records.specs.Saving.{Saved}
 use Rattle.records.proofs.Recording.{calls_into, saved_of}
 use Rattle.records.proofs.call.Goals as goal
 

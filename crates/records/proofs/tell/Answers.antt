@@ -1,7 +1,5 @@
 -- `records::tell` meets its contract: a listing within the records, and the rows saved.
 -- Assumes nothing.
-use Rattle.std.proofs.Common.{ℕ, subst}
-use Rattle.head.specs.Fields.{Fields}
 use Rattle.state.specs.State.{held, seen}
 use Rattle.records.proofs.Recording.{tells_into, saved_of}
 use Rattle.records.proofs.tell.Goals as goal

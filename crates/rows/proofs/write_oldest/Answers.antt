@@ -1,12 +1,11 @@
 -- `rows::write_oldest` meets its contract: the loop of `proofs/Ageing.antt`.
 -- Assumes nothing.
-use native.Mathlib.Omega.{arith}
-use Rattle.state.proofs.Same.{fields_stay, fields_then}
+use Rattle.state.proofs.Same.{rows_stay, rows_then, rows_wrote}
 use Rattle.rows.proofs.Ageing.{age_start, age_inside, age_readable, age_linked, age_room, age_step, age_end}
 use Rattle.rows.proofs.write_oldest.Goals as goal
 
 pub loop-j-init : goal.loop-j-init
-loop-j-init c = (fields_stay, age_start c.requires)
+loop-j-init c = (rows_stay, age_start c.requires)
 
 pub past-here-requires : goal.past-here-requires
 past-here-requires c = age_inside c.loop-j.invariant.1 c.loop-j-test.true
@@ -22,7 +21,7 @@ ahead-oldest-requires c = age_linked c.loop-j.invariant.1 c.loop-j-test.true _ c
 
 pub loop-j-preserved : goal.loop-j-preserved
 loop-j-preserved c = (
-  fields_then c.loop-j.invariant.0 c.write.ensures.lists,
+  rows_then c.loop-j.invariant.0 (rows_wrote c.write.ensures.lists c.write.ensures.wrote),
   age_step c.loop-j.invariant.1 c.loop-j-test.true _ _ _ _ c.past-here.ensures c.read.ensures c.write.ensures.wrote c.ahead-oldest.ensures,
 )
 

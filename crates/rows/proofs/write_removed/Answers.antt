@@ -3,14 +3,14 @@
 use Prim.Native.Nat.{◌+◌, ◌-◌}
 use mathlib.Core.Path.{◌≡◌}
 use native.Mathlib.Omega.{arith}
-use Rattle.state.proofs.Same.{fields_stay, fields_then}
+use Rattle.state.proofs.Same.{rows_stay, rows_then}
 use Rattle.rows.proofs.Sweeping.{sweep_start, sweep_offered, sweep_step, sweep_end, ahead_readable, ahead_linked}
 use Rattle.rows.proofs.write_removed.Goals as goal
 
 pub loop-init : goal.loop-init
 loop-init c =
     let z : c.args.view.now.head.live - 0 ≡ c.args.view.now.head.live = omega arith in
-    (fields_stay, rw z (sweep_start c.requires))
+    (rows_stay, rw z (sweep_start c.requires))
 
 pub read-row-requires : goal.read-row-requires
 read-row-requires c = ahead_readable c.loop.invariant.1.ahead (omega arith)
@@ -25,7 +25,7 @@ pub loop-preserved : goal.loop-preserved
 loop-preserved c =
     let live = c.args.view.now.head.live in
     let z : live - (c.loop.counter + 1) ≡ live - c.loop.counter - 1 = omega arith in (
-      fields_then c.loop.invariant.0 c.hand_out-n.ensures.lists,
+      rows_then c.loop.invariant.0 c.hand_out-n.ensures.lists,
       rw z (sweep_step c.loop.invariant.1 _ (omega arith) c.read-row.ensures _ _ _ c.after-slot.ensures c.hand_out-n.ensures.handed),
     )
 

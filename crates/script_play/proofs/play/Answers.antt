@@ -2,7 +2,6 @@
 -- Assumes nothing.
 use mathlib.Core.Path.{sym}
 use lib.Seq.{length-take-le}
-use Rattle.std.proofs.Common.{rules, length, ◌≡◌}
 use Rattle.script_play.proofs.Room.{text_fits}
 use Rattle.script_play.proofs.Playing.{going_first, going_cuts, going_inside, going_further, going_less, going_on, going_last}
 use Rattle.script_play.proofs.play.Goals as goal
@@ -33,11 +32,9 @@ loop-from-smaller g c = going_less c.loop-from.invariant c.loop-from-test.true c
 
 pub loop-from-preserved : goal.loop-from-preserved
 loop-from-preserved g c =
-    let k : length c.take-done.new.rows.codes.now ≡ length c.loop-from.rows.codes.now = search rules in
-    let st : length c.take-done.new.rows.stamps.now ≡ length c.loop-from.rows.stamps.now = search rules in
-    let v : length c.take-done.new.rows.values.now ≡ length c.loop-from.rows.values.now = search rules in
-    let w : length c.take-done.new.rows.weights.now ≡ length c.loop-from.rows.weights.now = search rules in
-    going_on c.loop-from.invariant c.loop-from-test.true c.line_end-to.ensures c.is_ok-written.result c.next_line-from.ensures c.take-done.ensures.took k st v w
+    let k = c.take-done.ensures.row_lists in
+    going_on c.loop-from.invariant c.loop-from-test.true c.line_end-to.ensures c.is_ok-written.result c.next_line-from.ensures c.take-done.ensures.took
+    k.codes k.stamps k.values k.weights
 
 pub returns : goal.returns
 returns g c = going_last c.loop-from.invariant c.loop-from-test.false
