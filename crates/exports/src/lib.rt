@@ -57,8 +57,8 @@ fn bare<'a>(head: Head) -> State<'a>
     }
 }
 
-// Exchanges the lists of a state with those that a caller lends, before a call and after it. A state that was made of them would not prove: the check does not follow
-// lists that are lent in a struct of a struct.
+// Exchanges the lists of a state with those that a caller lends: before a call, and back after it. Tried: a call on a state made of the lists themselves does not
+// prove, since what a list holds in the end is not known where it was lent to a struct within a struct.
 fn exchange<'a>(
     state: &mut State<'a>,
     fields: &mut Fields<'a>,
