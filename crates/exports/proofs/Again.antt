@@ -7,7 +7,7 @@ use mathlib.Core.Path.{◌≡◌, refl, sym, ap, subst, ◌∙◌}
 use native.Mathlib.Omega.{arith}
 use borrow.Author.Tests.{le-leb, lt-leb, le-ltb, ne_eqb}
 use lib.Dec.{eqb, ltb}
-use lib.ListN.{length, get_or, set}
+use lib.ListN.{length, get_or, length-set}
 use Rattle.head.specs.declared.Head.{Head}
 use Rattle.head.specs.Bounds.{none_mark}
 use Rattle.model.specs.Desk.{Kind, plain, weighed, kind_number}
@@ -16,7 +16,6 @@ use Rattle.list.specs.Order.{below}
 use Rattle.model.specs.Codes.{count}
 use Rattle.list.proofs.Chain.{not_head, not_last}
 use Rattle.table.proofs.Ring.{lt_or_le}
-use Rattle.layout.proofs.Laid.{still}
 use Rattle.plan.specs.States.{State, Sound, state}
 use Rattle.layout.specs.Heads.{narrowed, head_in, head_of, head_put, head_left}
 
@@ -47,7 +46,7 @@ put_in (a ∷ b ∷ c ∷ d ∷ e ∷ f ∷ g ∷ []) h n = absurd (omega (arith
 put_in (a ∷ b ∷ c ∷ d ∷ e ∷ f ∷ g ∷ i ∷ []) h n = absurd (omega (arith, n))
 
 put_long : (l : List ℕ) (h : Head) → length (head_put l h) ≡ length l
-put_long l h = still (set (set (set (set (set (set (set (set l 0 h.kind) 1 h.capacity) 2 h.slots) 3 h.live) 4 h.weight) 5 h.front.0) 6 h.back.0) 7 h.top.0) 8 h.depth.0 (still (set (set (set (set (set (set (set l 0 h.kind) 1 h.capacity) 2 h.slots) 3 h.live) 4 h.weight) 5 h.front.0) 6 h.back.0) 7 h.top.0 (still (set (set (set (set (set (set l 0 h.kind) 1 h.capacity) 2 h.slots) 3 h.live) 4 h.weight) 5 h.front.0) 6 h.back.0 (still (set (set (set (set (set l 0 h.kind) 1 h.capacity) 2 h.slots) 3 h.live) 4 h.weight) 5 h.front.0 (still (set (set (set (set l 0 h.kind) 1 h.capacity) 2 h.slots) 3 h.live) 4 h.weight (still (set (set (set l 0 h.kind) 1 h.capacity) 2 h.slots) 3 h.live (still (set (set l 0 h.kind) 1 h.capacity) 2 h.slots (still (set l 0 h.kind) 1 h.capacity (still l 0 h.kind refl))))))))
+put_long l h = simp length-set
 
 -- the head's list keeps its length
 pub left_long : (r : ℕ) (l : List ℕ) (h : Head) → length (head_left r l h) ≡ length l

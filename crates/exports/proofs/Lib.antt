@@ -1,4 +1,3 @@
-pub mod Exchanged
 pub mod Refused
 pub mod Again
 pub mod Settled

@@ -30,6 +30,50 @@ fn put_opened(list: &mut [u64], opened: Result<Head, Refusal>) -> u32
     }
 }
 
+// The lookup table that a caller lends.
+#[derive(Drop)]
+struct Table<'a> {
+    cells: &'a mut [u32],
+}
+
+// A state with a head and no lists.
+fn bare<'a>(head: Head) -> State<'a>
+    ensures { result.head ≡ head }
+{
+    State {
+        head,
+        fields: Fields {
+            codes: &mut [],
+            stamps: &mut [],
+            values: &mut [],
+            weights: &mut [],
+        },
+        links: Links {
+            next: &mut [],
+            prev: &mut [],
+            stack: &mut [],
+        },
+        cells: &mut [],
+    }
+}
+
+// Exchanges the lists of a state with those that a caller lends: before a call, and back after it. Tried: a call on a state made of the lists themselves does not
+// prove, since what a list holds in the end is not known where it was lent to a struct within a struct.
+fn exchange<'a>(
+    state: &mut State<'a>,
+    fields: &mut Fields<'a>,
+    links: &mut Links<'a>,
+    table: &mut Table<'a>,
+)
+    ensures head { state.new.head ≡ state.old.head }
+    ensures given { (state.new.fields ≡ fields.old) × (state.new.links ≡ links.old) × (state.new.cells ≡ table.old.cells) }
+    ensures taken { (fields.new ≡ state.old.fields) × (links.new ≡ state.old.links) × (table.new.cells ≡ state.old.cells) }
+{
+    std::mem::swap(&mut state.fields, fields);
+    std::mem::swap(&mut state.links, links);
+    std::mem::swap(&mut state.cells, &mut table.cells);
+}
+
 // Opens a cache in lists that may hold anything. The answer is 0, or 1 with nothing written.
 #[unsafe(no_mangle)]
 pub extern "C" fn weavestall_open(
@@ -48,23 +92,18 @@ pub extern "C" fn weavestall_open(
 ) -> u32
     ensures { Opening kind capacity slots head.old head.new codes.old stamps.old values.old weights.old next.old prev.old stack.old cells.old codes.new stamps.new values.new weights.new next.new prev.new stack.new cells.new result }
 {
-    let mut state = State {
-        head: Head::fresh(kind, capacity, slots),
-        fields: Fields {
-            codes,
-            stamps,
-            values,
-            weights,
-        },
-        links: Links { next, prev, stack },
-        cells,
+    let mut fields = Fields {
+        codes,
+        stamps,
+        values,
+        weights,
     };
-    let opened = opening::open(
-        kind_for(kind, head.len()),
-        capacity,
-        slots,
-        &mut state,
-    );
+    let mut links = Links { next, prev, stack };
+    let mut table = Table { cells };
+    let mut state = bare(Head::fresh(kind, capacity, slots));
+    exchange(&mut state, &mut fields, &mut links, &mut table);
+    let opened = opening::open(kind_for(kind, head.len()), capacity, slots, &mut state);
+    exchange(&mut state, &mut fields, &mut links, &mut table);
     put_opened(head, opened)
 }
 
@@ -131,17 +170,16 @@ pub extern "C" fn weavestall_call(
 ) -> u32
     ensures { Calling (command_in command.now) (state (head_of head.old (length answer.old)) codes.old stamps.old values.old weights.old next.old prev.old stack.old cells.old) codes.new stamps.new values.new weights.new next.new prev.new stack.new cells.new (fields row_codes.old row_stamps.old row_values.old row_weights.old) (fields row_codes.new row_stamps.new row_values.new row_weights.new) head.old head.new answer.old answer.new result }
 {
-    let mut state = State {
-        head: layout::head_at(head, answer.len()),
-        fields: Fields {
-            codes,
-            stamps,
-            values,
-            weights,
-        },
-        links: Links { next, prev, stack },
-        cells,
+    let mut fields = Fields {
+        codes,
+        stamps,
+        values,
+        weights,
     };
+    let mut links = Links { next, prev, stack };
+    let mut table = Table { cells };
+    let mut state = bare(layout::head_at(head, answer.len()));
+    exchange(&mut state, &mut fields, &mut links, &mut table);
     let mut rows = Fields {
         codes: row_codes,
         stamps: row_stamps,
@@ -149,6 +187,7 @@ pub extern "C" fn weavestall_call(
         weights: row_weights,
     };
     let said = door::call(&mut state, &mut rows, layout::command_at(command));
+    exchange(&mut state, &mut fields, &mut links, &mut table);
     let number = layout::put_answer(answer, said);
     layout::put_head(head, state.head, number);
     number

@@ -3,8 +3,7 @@
 #![tactic(auto)]
 
 ghost use Rattle.std.specs.Prelude.{length};
-ghost use Rattle.store.specs.State.{fields};
-ghost use Rattle.plan.specs.States.{state};
+ghost use Rattle.state.specs.State.{fields, state};
 ghost use Rattle.layout.specs.Heads.{head_of};
 ghost use Rattle.layout.specs.Commands.{command_in};
 ghost use Rattle.exports.specs.Exchange.{Opening, Reading, Calling};
