@@ -8,7 +8,7 @@ ghost use Rattle.layout.specs.Commands.{command_in};
 ghost use Rattle.exports.specs.Exchange.{kind_for, opened_number, opened_left, Opening, Reading, Calling};
 
 use head::{Head, Refusal};
-use state::{Fields, FieldsView, Links, LinksView, State, View};
+use state::{Fields, FieldsView, Links, LinksView, State, Table, View};
 
 // The kind to open with: none that exists where the head's list is too short for a head.
 fn kind_for(kind: u32, room: usize) -> u32
@@ -28,50 +28,6 @@ fn put_opened(list: &mut [u64], opened: Result<Head, Refusal>) -> u32
         }
         Err(why) => why.number(),
     }
-}
-
-// The lookup table that a caller lends.
-#[derive(Drop)]
-struct Table<'a> {
-    cells: &'a mut [u32],
-}
-
-// A state with a head and no lists.
-fn bare<'a>(head: Head) -> State<'a>
-    ensures { result.head ≡ head }
-{
-    State {
-        head,
-        fields: Fields {
-            codes: &mut [],
-            stamps: &mut [],
-            values: &mut [],
-            weights: &mut [],
-        },
-        links: Links {
-            next: &mut [],
-            prev: &mut [],
-            stack: &mut [],
-        },
-        cells: &mut [],
-    }
-}
-
-// Exchanges the lists of a state with those that a caller lends: before a call, and back after it. Tried: a call on a state made of the lists themselves does not
-// prove, since what a list holds in the end is not known where it was lent to a struct within a struct.
-fn exchange<'a>(
-    state: &mut State<'a>,
-    fields: &mut Fields<'a>,
-    links: &mut Links<'a>,
-    table: &mut Table<'a>,
-)
-    ensures head { state.new.head ≡ state.old.head }
-    ensures given { (state.new.fields ≡ fields.old) × (state.new.links ≡ links.old) × (state.new.cells ≡ table.old.cells) }
-    ensures taken { (fields.new ≡ state.old.fields) × (links.new ≡ state.old.links) × (table.new.cells ≡ state.old.cells) }
-{
-    std::mem::swap(&mut state.fields, fields);
-    std::mem::swap(&mut state.links, links);
-    std::mem::swap(&mut state.cells, &mut table.cells);
 }
 
 // Opens a cache in lists that may hold anything. The answer is 0, or 1 with nothing written.
@@ -100,10 +56,10 @@ pub extern "C" fn weavestall_open(
     };
     let mut links = Links { next, prev, stack };
     let mut table = Table { cells };
-    let mut state = bare(Head::fresh(kind, capacity, slots));
-    exchange(&mut state, &mut fields, &mut links, &mut table);
+    let mut state = State::bare(Head::fresh(kind, capacity, slots));
+    state.exchange(&mut fields, &mut links, &mut table);
     let opened = opening::open(kind_for(kind, head.len()), capacity, slots, &mut state);
-    exchange(&mut state, &mut fields, &mut links, &mut table);
+    state.exchange(&mut fields, &mut links, &mut table);
     put_opened(head, opened)
 }
 
@@ -178,8 +134,8 @@ pub extern "C" fn weavestall_call(
     };
     let mut links = Links { next, prev, stack };
     let mut table = Table { cells };
-    let mut state = bare(layout::head_at(head, answer.len()));
-    exchange(&mut state, &mut fields, &mut links, &mut table);
+    let mut state = State::bare(layout::head_at(head, answer.len()));
+    state.exchange(&mut fields, &mut links, &mut table);
     let mut rows = Fields {
         codes: row_codes,
         stamps: row_stamps,
@@ -187,7 +143,7 @@ pub extern "C" fn weavestall_call(
         weights: row_weights,
     };
     let said = door::call(&mut state, &mut rows, layout::command_at(command));
-    exchange(&mut state, &mut fields, &mut links, &mut table);
+    state.exchange(&mut fields, &mut links, &mut table);
     let number = layout::put_answer(answer, said);
     layout::put_head(head, state.head, number);
     number

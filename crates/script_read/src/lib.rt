@@ -9,7 +9,7 @@ ghost use Rattle.script_read.specs.Grammar.{call_named, nought_of, one_of, two_o
 use head::{Code, Command, Head, Rule};
 
 // What a line says.
-#[derive(Clone, Copy)]
+#[derive(Debug, Clone, Copy, PartialEq, Eq)]
 pub enum Line {
     Open {
         kind: u32,

@@ -44,6 +44,12 @@ pub struct LinksView<'a> {
     pub stack: &'a [u32],
 }
 
+// The lookup table by itself.
+#[derive(Drop)]
+pub struct Table<'a> {
+    pub cells: &'a mut [u32],
+}
+
 // A head, and lists that a call may change.
 #[derive(Drop)]
 pub struct State<'a> {
@@ -135,7 +141,45 @@ impl Links<'_> {
     }
 }
 
-impl State<'_> {
+impl<'a> State<'a> {
+    // A state with a head and no lists.
+    pub fn bare(head: Head) -> State<'a>
+        ensures { result.head ≡ head }
+    {
+        State {
+            head,
+            fields: Fields {
+                codes: &mut [],
+                stamps: &mut [],
+                values: &mut [],
+                weights: &mut [],
+            },
+            links: Links {
+                next: &mut [],
+                prev: &mut [],
+                stack: &mut [],
+            },
+            cells: &mut [],
+        }
+    }
+
+    // Exchanges its lists with those of three parts. A caller that has to say what its own `&mut` lists become gives them to a bare state so, before a call, and takes
+    // them back after it: of lists lent to a struct within a struct nothing is known in the end.
+    pub fn exchange(
+        &mut self,
+        fields: &mut Fields<'a>,
+        links: &mut Links<'a>,
+        table: &mut Table<'a>,
+    )
+        ensures head { self.new.head ≡ self.old.head }
+        ensures given { (self.new.fields ≡ fields.old) × (self.new.links ≡ links.old) × (self.new.cells ≡ table.old.cells) }
+        ensures taken { (fields.new ≡ self.old.fields) × (links.new ≡ self.old.links) × (table.new.cells ≡ self.old.cells) }
+    {
+        std::mem::swap(&mut self.fields, fields);
+        std::mem::swap(&mut self.links, links);
+        std::mem::swap(&mut self.cells, &mut table.cells);
+    }
+
     pub fn view(&self) -> View<'_>
         ensures { seen result ≡ lent self.now }
     {

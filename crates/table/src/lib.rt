@@ -14,7 +14,7 @@ use head::{Code, Head, Slot};
 
 // What a search finds: the slot that has the code and its cell, or the empty cell that ended it. `count` is how many cells were read, that
 // one included. 01 asks for "a search answer that is an enum"; both of its variants have a cell and a count.
-#[derive(Clone, Copy)]
+#[derive(Debug, Clone, Copy, PartialEq, Eq)]
 pub enum Search {
     Found {
         slot: Slot,
