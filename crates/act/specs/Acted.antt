@@ -39,3 +39,10 @@ pub record Offered (p : Plan) (h : Head) (f : Fields) (nx pv : List ℕ) (rows :
 -- the plan's rows are written
 pub record HandedOut (p : Plan) (h : Head) (f : Fields) (nx pv : List ℕ) (rows rows' : Fields) : Type 0 where
   pub written : (c : Cache) → Named p c → Walked h f nx pv c → Written (rows_of p c) rows rows'
+
+-- the same of a state that is lent to be read
+abbrev pub OfferedBy : Plan → State → Fields → Type 0
+OfferedBy p s rows = Offered p s.head s.fields s.nexts s.prevs rows
+
+abbrev pub HandedOutBy : Plan → State → Fields → Fields → Type 0
+HandedOutBy p s rows rows' = HandedOut p s.head s.fields s.nexts s.prevs rows rows'

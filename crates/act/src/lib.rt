@@ -3,7 +3,7 @@
 
 ghost use Rattle.state.specs.State.{held, lent, seen, SameLists, SameRows};
 ghost use Rattle.plan.specs.declared.Plan.TheVariants.{Place, Replace, Fit};
-ghost use Rattle.act.specs.Acted.{Prepared, Acted, Offered, HandedOut};
+ghost use Rattle.act.specs.Acted.{Prepared, Acted, OfferedBy, HandedOutBy};
 
 use head::{Head, Row, Slot};
 use plan::Plan;
@@ -68,9 +68,9 @@ pub fn act(state: &mut State<'_>, plan: Plan)
 
 // Writes the rows that a plan hands out.
 pub fn hand_out(view: &View<'_>, plan: Plan, rows: &mut Fields<'_>)
-    requires { Offered plan view.now.head (seen view.now).fields (seen view.now).nexts (seen view.now).prevs (held rows.old) }
+    requires { OfferedBy plan (seen view.now) (held rows.old) }
     ensures lists { SameRows rows.old rows.new }
-    ensures handed { HandedOut plan view.now.head (seen view.now).fields (seen view.now).nexts (seen view.now).prevs (held rows.old) (held rows.new) }
+    ensures handed { HandedOutBy plan (seen view.now) (held rows.old) (held rows.new) }
 {
     let none = Slot(Head::NONE);
     match plan {

@@ -3,3 +3,4 @@
 pub mod Plan
 pub mod Anew
 pub mod Compact
+pub mod Lent

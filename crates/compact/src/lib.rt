@@ -8,7 +8,8 @@ ghost use Rattle.head.specs.Bounds.{most_slots};
 ghost use Rattle.head.specs.Walks.{walk};
 ghost use Rattle.compact.specs.Plan.{exchanges};
 ghost use Rattle.compact.specs.Anew.{HeadOf, FrontOf, BackOf, NextOf, PrevOf, StackOf};
-ghost use Rattle.compact.specs.Compact.{Walkable, Numbered, Plannable, Planned, Exchangeable, AllExchangeable, Exchanged, Writable, LinksWritten, Compactable, Reordered, Resizable, Resized};
+ghost use Rattle.compact.specs.Compact.{Exchangeable, AllExchangeable, Exchanged};
+ghost use Rattle.compact.specs.Lent.{Walkable, Numbered, Plannable, Planned, Writable, LinksWritten, Compactable, Reordered, Resizable, Resized};
 
 use head::{Head, Place, Slot};
 use list::put;
@@ -16,10 +17,10 @@ use state::{Fields, Links, State};
 
 // Writes the order into the stack's cells, front first, and each slot's place in it into prev, none for the slots outside it.
 fn number(links: &mut Links<'_>, front: u32, n: u32, live: u32)
-    requires { Walkable n live front links.old.next.now links.old.prev.now links.old.stack.now }
+    requires { Walkable n live front links.old }
     ensures lists { SameLinks links.old links.new }
     ensures next { links.new.next.now ≡ links.old.next.now }
-    ensures numbered { Numbered n (walk links.old.next.now front live) links.old.prev.now links.old.stack.now links.new.prev.now links.new.stack.now }
+    ensures numbered { Numbered n (walk links.old.next.now front live) links.old links.new }
 {
     list::fill(links.prev, n, Head::NONE);
     let mut s = front;
@@ -33,10 +34,10 @@ fn number(links: &mut Links<'_>, front: u32, n: u32, live: u32)
 // Turns the order in the stack's cells into the row of exchanges that brings each entry to its place. What stands in slot i, of
 // place k or of none, goes to slot s, so the order's place k names s from then on.
 fn plan(links: &mut Links<'_>, n: u32, live: u32)
-    requires { Plannable n live links.old.prev.now links.old.stack.now }
+    requires { Plannable n live links.old }
     ensures lists { SameLinks links.old links.new }
     ensures next { links.new.next.now ≡ links.old.next.now }
-    ensures planned { Planned n (take live links.old.stack.now) links.old.prev.now links.old.stack.now links.new.prev.now links.new.stack.now }
+    ensures planned { Planned n (take live links.old.stack.now) links.old links.new }
 {
     for i in 0..live as usize {
         let s = links.stack[i];
@@ -48,10 +49,10 @@ fn plan(links: &mut Links<'_>, n: u32, live: u32)
 
 // Leaves in the stack's cells the row of exchanges that brings each entry to its place.
 fn arrange(links: &mut Links<'_>, front: u32, n: u32, live: u32)
-    requires { Walkable n live front links.old.next.now links.old.prev.now links.old.stack.now }
+    requires { Walkable n live front links.old }
     ensures lists { SameLinks links.old links.new }
     ensures next { links.new.next.now ≡ links.old.next.now }
-    ensures planned { Planned n (walk links.old.next.now front live) links.old.prev.now links.old.stack.now links.new.prev.now links.new.stack.now }
+    ensures planned { Planned n (walk links.old.next.now front live) links.old links.new }
 {
     number(links, front, n, live);
     plan(links, n, live);
@@ -128,9 +129,9 @@ fn stack_of(live: u32, top: u32, k: u32) -> u32
 
 // Writes the links of n slots: those below live in this order, those from there to top on the stack.
 fn write_links(links: &mut Links<'_>, n: u32, live: u32, top: u32)
-    requires { Writable n live top links.old.next.now links.old.prev.now links.old.stack.now }
+    requires { Writable n live top links.old }
     ensures lists { SameLinks links.old links.new }
-    ensures written { LinksWritten n live top links.old.next.now links.old.prev.now links.old.stack.now links.new.next.now links.new.prev.now links.new.stack.now }
+    ensures written { LinksWritten n live top links.old links.new }
 {
     for i in 0..n {
         links.next[i as usize] = next_of(live, i);
@@ -155,10 +156,10 @@ fn head_of(head: Head, top: Slot) -> Head
 
 // Puts the entry at place i of the order in slot i, with its fields, and makes the stack live..top, ascending. The table is left as it is.
 pub fn reorder(state: &mut State<'_>, top: Slot)
-    requires { Compactable state.old.head (lent state.old).nexts (lent state.old).prevs (lent state.old).stack (lent state.old).fields top.0 }
+    requires { Compactable (lent state.old) top.0 }
     ensures lists { SameLists state.old state.new }
     ensures cells { (lent state.new).cells ≡ (lent state.old).cells }
-    ensures reordered { Reordered state.old.head state.new.head (lent state.old).nexts (lent state.old).prevs (lent state.old).stack (lent state.new).nexts (lent state.new).prevs (lent state.new).stack (lent state.old).fields (lent state.new).fields top.0 }
+    ensures reordered { Reordered (lent state.old) (lent state.new) top.0 }
 {
     let head = state.head;
     arrange(&mut state.links, head.front.0, head.slots, head.live);
@@ -170,10 +171,10 @@ pub fn reorder(state: &mut State<'_>, top: Slot)
 // Sets the capacity, which holds all entries. Where it shrinks, the entry at place i of the order comes to slot i, and the slots
 // from there to the smaller of top and the capacity are the stack, ascending. Otherwise no slot moves. The table is left as it is.
 pub fn resize(state: &mut State<'_>, capacity: u64)
-    requires { Resizable state.old.head (lent state.old).nexts (lent state.old).prevs (lent state.old).stack (lent state.old).fields capacity }
+    requires { Resizable (lent state.old) capacity }
     ensures lists { SameLists state.old state.new }
     ensures cells { (lent state.new).cells ≡ (lent state.old).cells }
-    ensures resized { Resized state.old.head state.new.head (lent state.old).nexts (lent state.old).prevs (lent state.old).stack (lent state.new).nexts (lent state.new).prevs (lent state.new).stack (lent state.old).fields (lent state.new).fields capacity }
+    ensures resized { Resized (lent state.old) (lent state.new) capacity }
 {
     let head = state.head;
     if head.capacity <= capacity {

@@ -5,9 +5,9 @@ ghost use Rattle.std.specs.Prelude.{◌≡◌, ◌-◌, ◌≤◌, ◌<◌, leng
 ghost use Rattle.state.specs.State.{SameLinks};
 ghost use Rattle.list.specs.Steps.{put_at, choice};
 ghost use Rattle.head.specs.Bounds.{none_mark};
-ghost use Rattle.list.specs.Links.{Long};
 ghost use Rattle.list.specs.Inspect.{links_are, cell_ok, all_from, bare_ok, walk_ok, numbers_ok, Inspected};
-ghost use Rattle.list.specs.Promises.{Room, Unlinked, Fronted, Stackable, Released, Vacant, Given, Held, Removed, Moved, Spare, Pushed, Enough, Evicted, Cleared};
+ghost use Rattle.list.specs.Promises.{Vacant, Given};
+ghost use Rattle.list.specs.Lent.{Room, Unlinked, Fronted, Stackable, Released, Held, Removed, Moved, Spare, Pushed, Enough, Evicted, Cleared, Long};
 
 use head::{Head, Place, Slot};
 use state::Links;
@@ -46,10 +46,10 @@ pub fn at(list: &[u32], place: u32) -> u32
 
 // Takes a slot out of the order: its neighbours are linked to each other.
 pub fn unlink(head: Head, links: &mut Links<'_>, slot: Slot) -> Head
-    requires { Room head links.old.next.now links.old.prev.now slot.0 }
+    requires { Room head links.old slot.0 }
     ensures lists { SameLinks links.old links.new }
     ensures stack { links.new.stack.now ≡ links.old.stack.now }
-    ensures unlinked { Unlinked head result links.old.next.now links.old.prev.now links.new.next.now links.new.prev.now slot.0 }
+    ensures unlinked { Unlinked head links.old result links.new slot.0 }
 {
     let n = head.slots;
     let i = slot.0 as usize;
@@ -66,10 +66,10 @@ pub fn unlink(head: Head, links: &mut Links<'_>, slot: Slot) -> Head
 
 // Puts a slot that is in use, and not in the order, at the front of the order.
 pub fn link_front(head: Head, links: &mut Links<'_>, slot: Slot) -> Head
-    requires { Room head links.old.next.now links.old.prev.now slot.0 }
+    requires { Room head links.old slot.0 }
     ensures lists { SameLinks links.old links.new }
     ensures stack { links.new.stack.now ≡ links.old.stack.now }
-    ensures fronted { Fronted head result links.old.next.now links.old.prev.now links.new.next.now links.new.prev.now slot.0 }
+    ensures fronted { Fronted head links.old result links.new slot.0 }
 {
     let n = head.slots;
     put(links.prev, n, head.front.0, slot.0);
@@ -84,9 +84,9 @@ pub fn link_front(head: Head, links: &mut Links<'_>, slot: Slot) -> Head
 
 // Puts a slot that is in use, and not in the order, on the free stack.
 pub fn release(head: Head, links: &mut Links<'_>, slot: Slot) -> Head
-    requires { Stackable head links.old.next.now links.old.prev.now links.old.stack.now slot.0 }
+    requires { Stackable head links.old slot.0 }
     ensures lists { SameLinks links.old links.new }
-    ensures released { Released head result links.old.next.now links.old.prev.now links.old.stack.now links.new.next.now links.new.prev.now links.new.stack.now slot.0 }
+    ensures released { Released head links.old result links.new slot.0 }
 {
     let n = head.slots;
     let depth = head.depth.0;
@@ -129,9 +129,9 @@ pub fn next(head: Head, stack: &mut [u32]) -> Taken
 
 // Takes a slot and puts it at the front of the order.
 pub fn push_front(head: Head, links: &mut Links<'_>) -> Taken
-    requires { Spare head links.old.next.now links.old.prev.now links.old.stack.now }
+    requires { Spare head links.old }
     ensures lists { SameLinks links.old links.new }
-    ensures pushed { Pushed head result links.old.next.now links.old.prev.now links.old.stack.now links.new.next.now links.new.prev.now links.new.stack.now }
+    ensures pushed { Pushed head links.old result links.new }
 {
     let Taken { head, slot } = crate::next(head, links.stack);
     Taken {
@@ -142,9 +142,9 @@ pub fn push_front(head: Head, links: &mut Links<'_>) -> Taken
 
 // Takes the slot out of the order and puts it on the free stack.
 pub fn remove(head: Head, links: &mut Links<'_>, slot: Slot) -> Head
-    requires { Held head links.old.next.now links.old.prev.now links.old.stack.now slot.0 }
+    requires { Held head links.old slot.0 }
     ensures lists { SameLinks links.old links.new }
-    ensures removed { Removed head result links.old.next.now links.old.prev.now links.old.stack.now links.new.next.now links.new.prev.now links.new.stack.now slot.0 }
+    ensures removed { Removed head links.old result links.new slot.0 }
 {
     let loose = unlink(head, links, slot);
     release(loose, links, slot)
@@ -152,10 +152,10 @@ pub fn remove(head: Head, links: &mut Links<'_>, slot: Slot) -> Head
 
 // Moves a slot of the order to its front.
 pub fn move_front(head: Head, links: &mut Links<'_>, slot: Slot) -> Head
-    requires { Room head links.old.next.now links.old.prev.now slot.0 }
+    requires { Room head links.old slot.0 }
     ensures lists { SameLinks links.old links.new }
     ensures stack { links.new.stack.now ≡ links.old.stack.now }
-    ensures moved { Moved head result links.old.next.now links.old.prev.now links.new.next.now links.new.prev.now slot.0 }
+    ensures moved { Moved head links.old result links.new slot.0 }
 {
     let loose = unlink(head, links, slot);
     link_front(loose, links, slot)
@@ -163,9 +163,9 @@ pub fn move_front(head: Head, links: &mut Links<'_>, slot: Slot) -> Head
 
 // Removes k slots from the back of the order, the last one first.
 pub fn evict(head: Head, links: &mut Links<'_>, k: u32) -> Head
-    requires { Enough head links.old.next.now links.old.prev.now links.old.stack.now k }
+    requires { Enough head links.old k }
     ensures lists { SameLinks links.old links.new }
-    ensures evicted { Evicted head result links.old.next.now links.old.prev.now links.old.stack.now links.new.next.now links.new.prev.now links.new.stack.now k }
+    ensures evicted { Evicted head links.old result links.new k }
 {
     let mut left = head;
     for _ in 0..k {
@@ -186,9 +186,9 @@ pub fn fill<T: Copy>(list: &mut [T], n: u32, v: T)
 
 // Empties the order and the stack, and counts every slot as never used.
 pub fn clear(head: Head, links: &mut Links<'_>) -> Head
-    requires { Long head links.old.next.now links.old.prev.now links.old.stack.now }
+    requires { Long head links.old }
     ensures lists { SameLinks links.old links.new }
-    ensures cleared { Cleared head result links.old.next.now links.old.prev.now links.old.stack.now links.new.next.now links.new.prev.now links.new.stack.now }
+    ensures cleared { Cleared head links.old result links.new }
 {
     let n = head.slots;
     fill(links.next, n, Head::UNUSED);

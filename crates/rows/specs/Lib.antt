@@ -1,3 +1,4 @@
 pub mod Views
 pub mod Written
 pub mod Answers
+pub mod Lent

@@ -6,7 +6,8 @@ ghost use Rattle.model.specs.Desk.{keeps as keeping};
 ghost use Rattle.model.specs.Codes.{one};
 ghost use Rattle.state.specs.State.{held, seen, SameRows};
 ghost use Rattle.rows.specs.Views.{past_at, cost_at, Countable};
-ghost use Rattle.rows.specs.Answers.{Budgeted, Leaves, Read, Removes, Aged, WroteOldest, Offered, Handed, Sweepable, WroteRemoved, Listable, WroteAll, ListableBack, WroteBack};
+ghost use Rattle.rows.specs.Answers.{Offered, Handed};
+ghost use Rattle.rows.specs.Lent.{Budgeted, Leaves, Read, Removes, Aged, WroteOldest, Sweepable, WroteRemoved, Listable, WroteAll, ListableBack, WroteBack};
 
 use head::{Head, Row, Rule, Slot};
 use state::{Fields, View};
@@ -38,8 +39,8 @@ fn taken_up(head: Head, weights: &[u64], skip: Slot) -> u64
 
 // How many must leave from the back until what stays takes at most the budget. The entry in the slot to skip counts as gone; NONE skips no slot.
 pub fn leaving(view: &View<'_>, budget: u64, skip: Slot) -> u32
-    requires { Budgeted view.now.head (seen view.now).fields.weights (seen view.now).prevs skip.0 }
-    ensures { Leaves view.now.head (seen view.now).fields.weights (seen view.now).prevs budget skip.0 result }
+    requires { Budgeted (seen view.now) skip.0 }
+    ensures { Leaves (seen view.now) budget skip.0 result }
 {
     let weights = view.fields.weights;
     let prev = view.links.prev;
@@ -58,8 +59,8 @@ pub fn leaving(view: &View<'_>, budget: u64, skip: Slot) -> u32
 
 // How many entries a rule does not keep.
 pub fn removed_by(view: &View<'_>, rule: Rule) -> u32
-    requires { Read view.now.head (seen view.now).fields (seen view.now).nexts }
-    ensures { Removes view.now.head (seen view.now).fields (seen view.now).nexts rule result }
+    requires { Read (seen view.now) }
+    ensures { Removes (seen view.now) rule result }
 {
     let mut slot = view.head.front;
     let mut n: u32 = 0;
@@ -73,9 +74,9 @@ pub fn removed_by(view: &View<'_>, rule: Rule) -> u32
 
 // Writes the k oldest entries as rows, oldest first. The entry in the slot to skip counts as gone; NONE skips no slot.
 pub fn write_oldest(view: &View<'_>, k: u32, skip: Slot, rows: &mut Fields<'_>)
-    requires { Aged view.now.head (seen view.now).fields (seen view.now).prevs k skip.0 (held rows.old) }
+    requires { Aged (seen view.now) k skip.0 (held rows.old) }
     ensures lists { SameRows rows.old rows.new }
-    ensures wrote { WroteOldest view.now.head (seen view.now).fields (seen view.now).prevs k skip.0 (held rows.old) (held rows.new) }
+    ensures wrote { WroteOldest (seen view.now) k skip.0 (held rows.old) (held rows.new) }
 {
     let prev = view.links.prev;
     let mut oldest = view.head.back;
@@ -101,9 +102,9 @@ fn hand_out(rows: &mut Fields<'_>, n: u32, rule: Rule, row: Row) -> u32
 
 // Writes the entries that a rule does not keep as rows, front to back.
 pub fn write_removed(view: &View<'_>, rule: Rule, rows: &mut Fields<'_>)
-    requires { Sweepable view.now.head (seen view.now).fields (seen view.now).nexts rule (held rows.old) }
+    requires { Sweepable (seen view.now) rule (held rows.old) }
     ensures lists { SameRows rows.old rows.new }
-    ensures wrote { WroteRemoved view.now.head (seen view.now).fields (seen view.now).nexts rule (held rows.old) (held rows.new) }
+    ensures wrote { WroteRemoved (seen view.now) rule (held rows.old) (held rows.new) }
 {
     let mut slot = view.head.front;
     let mut n: u32 = 0;
@@ -116,9 +117,9 @@ pub fn write_removed(view: &View<'_>, rule: Rule, rows: &mut Fields<'_>)
 
 // Writes all entries as rows, front to back: what a rule removes that keeps none.
 pub fn write_all(view: &View<'_>, rows: &mut Fields<'_>)
-    requires { Listable view.now.head (seen view.now).fields (seen view.now).nexts (held rows.old) }
+    requires { Listable (seen view.now) (held rows.old) }
     ensures lists { SameRows rows.old rows.new }
-    ensures wrote { WroteAll view.now.head (seen view.now).fields (seen view.now).nexts (held rows.old) (held rows.new) }
+    ensures wrote { WroteAll (seen view.now) (held rows.old) (held rows.new) }
 {
     let any = Rule::stamp(0);
     write_removed(view, any.negated(), rows);
@@ -126,9 +127,9 @@ pub fn write_all(view: &View<'_>, rows: &mut Fields<'_>)
 
 // Writes all entries as rows, back to front.
 pub fn write_all_back(view: &View<'_>, rows: &mut Fields<'_>)
-    requires { ListableBack view.now.head (seen view.now).fields (seen view.now).prevs (held rows.old) }
+    requires { ListableBack (seen view.now) (held rows.old) }
     ensures lists { SameRows rows.old rows.new }
-    ensures wrote { WroteBack view.now.head (seen view.now).fields (seen view.now).prevs (held rows.old) (held rows.new) }
+    ensures wrote { WroteBack (seen view.now) (held rows.old) (held rows.new) }
 {
     write_oldest(view, view.head.live, Slot(Head::NONE), rows);
 }
