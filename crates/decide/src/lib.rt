@@ -290,6 +290,7 @@ fn get_mut(head: Head, values: &[u64], search: Search, value: u64) -> Result<Dec
     })
 }
 
+// As `get_mut` but for the plan: handed in, the plan would be a closure with a clause of its own.
 fn peek_mut(head: Head, values: &[u64], search: Search, value: u64) -> Result<Decision, Refusal>
     requires { Reached search values.now }
     ensures { (code : ℕ) → Always (Sought head values.now search code) (peek_mut_call code value) (settled result) }
@@ -439,7 +440,7 @@ fn retain(view: &View<'_>, room: usize, rule: Rule) -> Result<Decision, Refusal>
 fn capacity_ok(capacity: u64) -> bool
     ensures { result ≡ capacity_ok capacity }
 {
-    0 < capacity && capacity <= Head::MOST_CAPACITY
+    (1..=Head::MOST_CAPACITY).contains(&capacity)
 }
 
 fn resize(view: &View<'_>, room: usize, capacity: u64) -> Result<Decision, Refusal>

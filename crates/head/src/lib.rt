@@ -10,7 +10,7 @@ ghost use Rattle.head.specs.Refusals.{number_of};
 ghost use Rattle.head.specs.Rules.{code_rule, value_rule, stamp_rule, weight_rule, rule_of};
 
 // The number of a slot, or one of the marks NONE and UNUSED of `Head`.
-#[derive(Debug, Clone, Copy, PartialEq, Eq)]
+#[derive(Debug, Clone, Copy, PartialEq, Eq, Default)]
 pub struct Slot(pub u32);
 
 // What a key is compared by.
@@ -100,6 +100,16 @@ pub struct Row {
     pub stamp: u32,
     pub value: u64,
     pub weight: u64,
+}
+
+impl Row {
+    // What a slot holds that has no entry.
+    pub const BLANK: Row = Row {
+        code: Code(0),
+        stamp: 0,
+        value: 0,
+        weight: 0,
+    };
 }
 
 // Which entries `retain` keeps.

@@ -12,7 +12,8 @@ ghost use Rattle.rows.specs.Lent.{Budgeted, Leaves, Read, Removes, Aged, WroteOl
 use head::{Head, Row, Rule, Slot};
 use state::{Fields, View};
 
-// The slot itself, or the one ahead of it where it is the one to skip.
+// The slot itself, or the one ahead of it where it is the one to skip. NONE, the mark of 01 for a link that there is not, skips none: slots are compared with it as they
+// are, and would be with an Option.
 fn past(prev: &[u32], slot: Slot, skip: Slot) -> Slot
     requires { slot.0 < length prev.now }
     ensures { result.0 ≡ past_at prev.now skip.0 slot.0 }
@@ -29,7 +30,7 @@ fn taken_up(head: Head, weights: &[u64], skip: Slot) -> u64
     requires { Countable head weights.now skip.0 }
     ensures { result ≡ head.live + head.weight - cost_at weights.now skip.0 }
 {
-    let all = (head.live as u64) + head.weight;
+    let all = u64::from(head.live) + head.weight;
     if skip.0 == Head::NONE {
         all
     } else {

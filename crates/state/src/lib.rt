@@ -2,13 +2,14 @@
 // too short.
 #![tactic(auto)]
 
-ghost use Rattle.std.specs.Prelude.{◌≡◌};
-ghost use Rattle.state.specs.State.{lent, seen, held, viewed, SameFields};
+ghost use Rattle.std.specs.Prelude.{◌≡◌, []};
+ghost use Rattle.state.specs.State.{lent, seen, held, viewed, state, SameFields};
 ghost use Rattle.state.specs.Entries.{shortest, entry_in, Writable, Wrote};
 
 use head::{Code, Head, Row};
 
-// A list for each number of an entry. The entry in slot s, or row s of those that a call hands out, is number s of each.
+// A list for each number of an entry: 01 asks for lists of plain numbers, side by side. The entry in slot s, or row s of those that a call hands out, is number s of
+// each.
 #[derive(Drop)]
 pub struct Fields<'a> {
     pub codes: &'a mut [u64],
@@ -17,7 +18,7 @@ pub struct Fields<'a> {
     pub weights: &'a mut [u64],
 }
 
-// The same, only read.
+// The same, only read: one type over `&` and `&mut` lists there is not.
 #[derive(Clone, Copy)]
 pub struct FieldsView<'a> {
     pub codes: &'a [u64],
@@ -44,7 +45,7 @@ pub struct LinksView<'a> {
     pub stack: &'a [u32],
 }
 
-// The lookup table by itself.
+// The lookup table by itself, as `exchange` takes it: a struct can be lent, its one list could not be given away.
 #[derive(Drop)]
 pub struct Table<'a> {
     pub cells: &'a mut [u32],
@@ -144,7 +145,8 @@ impl Links<'_> {
 impl<'a> State<'a> {
     // A state with a head and no lists.
     pub fn bare(head: Head) -> State<'a>
-        ensures { result.head ≡ head }
+        ensures head { result.head ≡ head }
+        ensures lists { lent result ≡ state head [] [] [] [] [] [] [] [] }
     {
         State {
             head,

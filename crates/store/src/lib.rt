@@ -10,16 +10,8 @@ ghost use Rattle.table.specs.Links.{Keyed};
 ghost use Rattle.store.specs.Lengths.{spacious};
 ghost use Rattle.store.specs.Acts.{Occupied, Dropped, Admits, Added, Rich, Shed, Spacious, Emptied, Holds, Capped};
 
-use head::{Code, Head, Row, Slot};
+use head::{Head, Row, Slot};
 use state::{Fields, Links, State, View};
-
-// What a slot holds that has no entry.
-const BLANK: Row = Row {
-    code: Code(0),
-    stamp: 0,
-    value: 0,
-    weight: 0,
-};
 
 // Whether the lists have room for n slots.
 pub fn long_enough(n: u32, view: &View<'_>) -> bool
@@ -86,7 +78,7 @@ pub fn remove(state: &mut State<'_>, slot: Slot)
     let head = state.head;
     let weight = state.fields.weights[slot.0 as usize];
     remove_slot(&mut state.cells, &state.fields, head.slots as usize, slot);
-    state.fields.write(slot.0, BLANK);
+    state.fields.write(slot.0, Row::BLANK);
     let left = list::remove(head, &mut state.links, slot);
     state.head = left.with_weight(left.weight - weight);
 }

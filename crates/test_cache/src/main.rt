@@ -9,13 +9,6 @@ use test_turns::{List, Request, Turn};
 
 // ---- the line
 
-const BLANK: Row = Row {
-    code: Code(0),
-    stamp: 0,
-    value: 0,
-    weight: 0,
-};
-
 // An entry as it is told.
 #[derive(Clone, Copy)]
 struct Entry(Row);
@@ -57,7 +50,7 @@ fn entry_at(fields: &FieldsView<'_>, place: u32) -> Entry {
     if (place as usize) < fields.room() {
         Entry(fields.read(place))
     } else {
-        Entry(BLANK)
+        Entry(Row::BLANK)
     }
 }
 
@@ -134,9 +127,8 @@ fn main(rt: HostRuntime) -> io::Result<()> {
     let mut row_values = [7u64; 8];
     let mut row_weights = [7u64; 8];
     let mut head = Head::fresh(Head::PLAIN, 8, 8);
-    let turns = test_turns::turns(rt.alloc())?;
-    for (i, turn) in turns.iter().enumerate() {
-        let t = *turn;
+    for i in 0..test_turns::TURNS {
+        let t = test_turns::turn_at(i);
         let hurt = t.harmed(head);
         let mut state = State {
             head: hurt,

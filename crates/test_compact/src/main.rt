@@ -8,7 +8,6 @@ ghost use Rattle.compact.specs.Compact.{Resizable};
 
 use head::{Code, Head, Row, Slot};
 use state::{State, View};
-use std::alloc::{AllocError, Global};
 use std::cmp::Ordering;
 use std::io;
 use test_kit::line::Order;
@@ -22,13 +21,6 @@ const WEIGHT: u64 = 5;
 const MOST: u64 = 24;
 
 // ---- the list with its fields
-
-const BLANK: Row = Row {
-    code: Code(0),
-    stamp: 0,
-    value: 0,
-    weight: 0,
-};
 
 // The entry that a mark stands for: unlike those of other marks in each of its numbers but the stamp.
 fn row_of(mark: u64) -> Row {
@@ -102,7 +94,7 @@ impl Lists {
     fn wipe(&mut self) {
         for slot in 0..16 {
             if self.links.next[slot as usize] == Head::UNUSED {
-                self.fields.write(Slot(slot), BLANK);
+                self.fields.write(Slot(slot), Row::BLANK);
             }
         }
     }
@@ -255,13 +247,13 @@ struct World {
 
 impl World {
     // Fresh lists.
-    fn new(alloc: Global) -> World {
+    fn new() -> World {
         World {
             lists: Lists {
                 links: Links::bare(fresh(12)),
                 fields: Fields::blank(),
             },
-            order: Order::new(alloc),
+            order: Order::new(),
             capacity: 12,
             seed: 1,
             tally: Tally::default(),
@@ -269,33 +261,32 @@ impl World {
     }
 
     // So many entries leave by the back, on both sides.
-    fn evict(&mut self, count: u32) -> Result<(), AllocError> {
+    fn evict(&mut self, count: u32) {
         self.lists.evict(count);
-        self.order.evict(count)
+        self.order.evict(count);
     }
 
     // Sets the capacity on both sides. First those leave that it cannot hold.
-    fn resize(&mut self, capacity: u64) -> Result<(), AllocError> {
+    fn resize(&mut self, capacity: u64) {
         let live = u64::from(self.order.live());
-        self.evict(live.saturating_sub(capacity) as u32)?;
+        self.evict(live.saturating_sub(capacity) as u32);
         self.lists.resize(capacity);
         if capacity < self.capacity {
-            self.order.compact(capacity)?;
+            self.order.compact(capacity);
         }
         self.capacity = capacity;
-        Ok(())
     }
 
     // The same act on both sides.
-    fn act(&mut self, act: Act, mark: u64) -> Result<(), AllocError> {
+    fn act(&mut self, act: Act, mark: u64) {
         match act {
             Act::Push => {
                 self.lists.push(mark);
-                self.order.push(mark)
+                self.order.push(mark);
             }
             Act::Remove(place) => {
                 self.lists.remove(self.order.slot_at(place));
-                self.order.remove(place)
+                self.order.remove(place);
             }
             Act::Evict(count) => self.evict(count),
             Act::Resize(capacity) => self.resize(capacity),
@@ -303,26 +294,25 @@ impl World {
     }
 
     // One turn on both sides, which are then compared. So many turns are left.
-    fn turn(&mut self, left: u64) -> Result<(), AllocError> {
+    fn turn(&mut self, left: u64) {
         let r = draw(self.seed);
         let q = draw(r);
         self.seed = q;
         let act = Act::drawn(r, q, u64::from(self.order.live()), self.capacity);
         self.tally.note(act, self.capacity);
         // Each turn's own mark.
-        self.act(act, left % 4294967296 * 65536 + q % 65536)?;
+        self.act(act, left % 4294967296 * 65536 + q % 65536);
         if self.lists == Lists::of(&self.order, self.capacity) {
             self.tally.agreed.more();
         }
-        Ok(())
     }
 }
 
 // So many turns, and how many of each kind there were.
-pub fn drive(rt: &(impl Print + AllocGlobal), turns: u64) -> io::Result<()> {
-    let mut world = World::new(rt.alloc());
+pub fn drive(rt: &impl Print, turns: u64) -> io::Result<()> {
+    let mut world = World::new();
     for left in (1..=turns).rev() {
-        world.turn(left)?;
+        world.turn(left);
     }
     let tally = world.tally;
     println!(rt; "push {}", tally.push)?;

@@ -1,14 +1,15 @@
-// A list of at most 16 slots that is kept plainly, by moving entries in a `Vec`, and the links that the list has to have for it.
-ghost use Rattle.std.specs.Prelude.{◌≡◌, ◌<◌, ◌≤◌, IfSome, IsOk, vec_len};
+// A list of at most 16 slots that is kept plainly, by moving entries in a vector, and the links that the list has to have for it.
+ghost use Rattle.std.specs.Prelude.{◌≡◌, ◌<◌, ◌≤◌, IfSome};
+ghost use Rattle.arrayvec.specs.ArrayVec.{array_vec_len};
 ghost use Rattle.head.specs.Bounds.{none_mark};
 
 use crate::links::Links;
+use arrayvec::ArrayVec;
 use head::{Head, Place, Slot};
-use std::alloc::{AllocError, Global};
 use std::array;
 
 // A slot in use, and a mark for what it holds.
-#[derive(Clone, Copy)]
+#[derive(Clone, Copy, Default)]
 pub struct Entry {
     pub slot: Slot,
     pub mark: u64,
@@ -17,29 +18,27 @@ pub struct Entry {
 // The entries, front first; the pile of free slots, of which the last is taken first; and the first slot never used.
 #[derive(Drop)]
 pub struct Order {
-    pub entries: Vec<Entry>,
-    pub pile: Vec<Slot>,
+    pub entries: ArrayVec<Entry, 16>,
+    pub pile: ArrayVec<Slot, 16>,
     pub top: u32,
-    ghost few: { vec_len entries ≤ 16 },
-    ghost low: { vec_len pile ≤ 16 },
     ghost used: { top ≤ 16 },
 }
 
 impl Order {
     // No slot is in use.
-    pub fn new(alloc: Global) -> Order
-        ensures { (vec_len result.entries ≡ 0) × (vec_len result.pile ≡ 0) × (result.top ≡ 0) }
+    pub fn new() -> Order
+        ensures { (array_vec_len result.entries ≡ 0) × (array_vec_len result.pile ≡ 0) × (result.top ≡ 0) }
     {
         Order {
-            entries: Vec::new(alloc),
-            pile: Vec::new(alloc),
+            entries: ArrayVec::new(),
+            pile: ArrayVec::new(),
             top: 0,
         }
     }
 
     // The slot at a place, none past the end.
     pub fn slot_at(&self, place: usize) -> Slot
-        ensures { vec_len self.now.entries ≤ place → result.0 ≡ none_mark }
+        ensures { array_vec_len self.now.entries ≤ place → result.0 ≡ none_mark }
     {
         self.entries
             .get(place)
@@ -48,7 +47,7 @@ impl Order {
 
     // The place of a slot, none where it is not in use.
     fn place_of(&self, slot: Slot) -> Option<usize>
-        ensures { IfSome result (λ place. place < vec_len self.now.entries) }
+        ensures { IfSome result (λ place. place < 16) }
     {
         self.entries.iter().position(|entry| entry.slot == slot)
     }
@@ -69,48 +68,44 @@ impl Order {
     }
 
     // An entry with this mark comes to the front.
-    pub fn push(&mut self, mark: u64) -> Result<(), AllocError> {
-        if 16 <= self.entries.len() {
-            return Ok(());
+    pub fn push(&mut self, mark: u64) {
+        if self.entries.is_full() {
+            return;
         }
         if let Some(slot) = self.take_slot() {
-            self.entries.insert(0, Entry { slot, mark })?;
+            self.entries.insert(0, Entry { slot, mark });
         }
-        Ok(())
     }
 
     // The entry at a place leaves, and its slot comes on the pile.
-    pub fn remove(&mut self, place: usize) -> Result<(), AllocError> {
-        if place < self.entries.len() && self.pile.len() < 16 {
+    pub fn remove(&mut self, place: usize) {
+        if place < self.entries.len() && !self.pile.is_full() {
             let entry = self.entries.remove(place);
-            self.pile.push(entry.slot)?;
+            self.pile.push(entry.slot);
         }
-        Ok(())
     }
 
     // The entry at a place comes to the front.
-    pub fn raise(&mut self, place: usize) -> Result<(), AllocError>
-        ensures { IsOk result → vec_len self.new.entries ≡ vec_len self.old.entries }
+    pub fn raise(&mut self, place: usize)
+        ensures { array_vec_len self.new.entries ≡ array_vec_len self.old.entries }
     {
         if place < self.entries.len() {
             let entry = self.entries.remove(place);
-            self.entries.insert(0, entry)?;
+            self.entries.insert(0, entry);
         }
-        Ok(())
     }
 
     // So many leave by the back.
-    pub fn evict(&mut self, count: u32) -> Result<(), AllocError> {
+    pub fn evict(&mut self, count: u32) {
         for _ in 0..count {
             let last = self.entries.len().wrapping_sub(1);
-            self.remove(last)?;
+            self.remove(last);
         }
-        Ok(())
     }
 
     // Every entry leaves, and no slot counts as used.
     pub fn clear(&mut self)
-        ensures { (vec_len self.new.entries ≡ 0) × (vec_len self.new.pile ≡ 0) × (self.new.top ≡ 0) }
+        ensures { (array_vec_len self.new.entries ≡ 0) × (array_vec_len self.new.pile ≡ 0) × (self.new.top ≡ 0) }
     {
         self.entries.clear();
         self.pile.clear();
@@ -118,7 +113,7 @@ impl Order {
     }
 
     // The entry at place i comes to slot i, and the slots from there to the smaller of top and the capacity are the pile, ascending.
-    pub fn compact(&mut self, capacity: u64) -> Result<(), AllocError> {
+    pub fn compact(&mut self, capacity: u64) {
         if capacity < u64::from(self.top) {
             self.top = capacity as u32;
         }
@@ -127,14 +122,13 @@ impl Order {
         }
         self.pile.clear();
         for slot in self.live()..self.top {
-            self.pile.push(Slot(slot))?;
+            self.pile.push(Slot(slot));
         }
-        Ok(())
     }
 
     // How many entries there are.
     pub fn live(&self) -> u32
-        ensures { result ≡ vec_len self.now.entries }
+        ensures { result ≡ array_vec_len self.now.entries }
     {
         self.entries.len() as u32
     }

@@ -2,7 +2,6 @@
 #![tactic(auto)]
 
 use head::Head;
-use std::alloc::{AllocError, Global};
 use std::io;
 use test_kit::line::Order;
 use test_kit::links::Links;
@@ -70,10 +69,10 @@ struct World {
 
 impl World {
     // Fresh lists.
-    fn new(alloc: Global) -> World {
+    fn new() -> World {
         World {
             list: Links::bare(World::head()),
-            order: Order::new(alloc),
+            order: Order::new(),
             seed: 1,
             tally: Tally::default(),
         }
@@ -84,52 +83,50 @@ impl World {
     }
 
     // The same act on both sides.
-    fn act(&mut self, act: Act) -> Result<(), AllocError> {
+    fn act(&mut self, act: Act) {
         match act {
             Act::Push => {
                 self.list.push();
-                self.order.push(0)
+                self.order.push(0);
             }
             Act::Remove(place) => {
                 self.list.remove(self.order.slot_at(place));
-                self.order.remove(place)
+                self.order.remove(place);
             }
             Act::Move(place) => {
                 self.list.raise(self.order.slot_at(place));
-                self.order.raise(place)
+                self.order.raise(place);
             }
             Act::Evict(count) => {
                 self.list.evict(count);
-                self.order.evict(count)
+                self.order.evict(count);
             }
             Act::Clear => {
                 self.list.clear();
                 self.order.clear();
-                Ok(())
             }
         }
     }
 
     // One turn on both sides, which are then compared.
-    fn turn(&mut self) -> Result<(), AllocError> {
+    fn turn(&mut self) {
         let r = draw(self.seed);
         let q = draw(r);
         self.seed = q;
         let act = Act::drawn(r, q, u64::from(self.order.live()));
-        self.act(act)?;
+        self.act(act);
         self.tally.note(act);
         if self.list == self.order.links(World::head()) {
             self.tally.agreed.more();
         }
-        Ok(())
     }
 }
 
 // So many turns, and how many of each kind there were.
-pub fn drive(rt: &(impl Print + AllocGlobal), turns: u64) -> io::Result<()> {
-    let mut world = World::new(rt.alloc());
+pub fn drive(rt: &impl Print, turns: u64) -> io::Result<()> {
+    let mut world = World::new();
     for _ in 0..turns {
-        world.turn()?;
+        world.turn();
     }
     let tally = world.tally;
     println!(rt; "push {}", tally.push)?;

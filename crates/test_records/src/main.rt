@@ -8,18 +8,11 @@ use head::{Answer, Code, Command, Head, Row, Rule};
 use state::{Fields, FieldsView, Links, State, View};
 use std::{fmt, io};
 
-const BLANK: Row = Row {
-    code: Code(0),
-    stamp: 0,
-    value: 0,
-    weight: 0,
-};
-
 // The rows of a call, in eight records that are blank at first.
 fn recorded(state: &mut State<'_>, rows: &mut Fields<'_>, command: Command) -> [Row; 8]
     ensures { Lists command (lent state.old) (held rows.old) result }
 {
-    let mut list = [BLANK; 8];
+    let mut list = [Row::BLANK; 8];
     records::call(state, rows, &mut list, command);
     list
 }
@@ -28,7 +21,7 @@ fn recorded(state: &mut State<'_>, rows: &mut Fields<'_>, command: Command) -> [
 fn listed(view: &View<'_>, rows: &mut Fields<'_>, command: Command) -> [Row; 8]
     ensures { ListsTold command (seen view.now) (held rows.old) result }
 {
-    let mut list = [BLANK; 8];
+    let mut list = [Row::BLANK; 8];
     records::tell(view, rows, &mut list, command);
     list
 }

@@ -1,10 +1,9 @@
 // A fixed list of turns over the public calls: what each asks, how it is asked, and how it is told.
 #![tactic(auto)]
 
-ghost use Rattle.std.specs.Prelude.{◌≡◌, ◌≤◌, IfNone, IfOk, vec_len};
+ghost use Rattle.std.specs.Prelude.{◌≡◌, ◌≤◌, IfNone};
 
 use head::{Code, Command, Head, Place, Rule, Slot};
-use std::alloc::{AllocError, Global};
 use std::fmt;
 
 // A list that is lent, numbered as it is told.
@@ -74,7 +73,7 @@ pub enum Request {
 #[derive(Clone, Copy)]
 pub struct Turn {
     pub request: Request,
-    // Request at the door, and not by the call's own name.
+    // Asked at the door, and not by the call's own name.
     pub door: bool,
     pub short: Option<Short>,
     pub damage: Option<Damage>,
@@ -219,24 +218,24 @@ fn tried(code: u64, stamp: u32, amount: u64, ceiling: u64) -> Turn {
     })
 }
 
-// A sweep that keeps what a rule names, by its number: 01 has a refusal for rules that there are not, and turns ask for some.
-fn kept(number: u32, low: u64, high: u64) -> Turn {
+// A sweep by a rule's number: 01 has a refusal for rules that there are not, and turns ask for some.
+fn sweep(number: u32, not: bool, low: u64, high: u64) -> Turn {
     asked(Command::Retain(Rule {
         number,
-        not: false,
+        not,
         low,
         high,
     }))
 }
 
+// A sweep that keeps what the rule names.
+fn kept(number: u32, low: u64, high: u64) -> Turn {
+    sweep(number, false, low, high)
+}
+
 // A sweep that keeps what the rule does not name.
 fn swept(number: u32, low: u64, high: u64) -> Turn {
-    asked(Command::Retain(Rule {
-        number,
-        not: true,
-        low,
-        high,
-    }))
+    sweep(number, true, low, high)
 }
 
 // Opening refused: kind, capacity, slots, and each list one short; then allowed.
@@ -635,25 +634,34 @@ fn weighed_ends() -> [Turn; 32] {
     ]
 }
 
-// All turns, scene by scene.
-pub fn turns(alloc: Global) -> Result<Vec<Turn>, AllocError>
-    ensures { IfOk result (λ v. vec_len v ≡ 318) }
-{
-    let mut turns = Vec::new(alloc);
-    turns.extend_from_slice(&openings())?;
-    turns.extend_from_slice(&orders())?;
-    turns.extend_from_slice(&stamps())?;
-    turns.extend_from_slice(&weights_run())?;
-    turns.extend_from_slice(&sizes())?;
-    turns.extend_from_slice(&slots_run())?;
-    turns.extend_from_slice(&rows_run())?;
-    turns.extend_from_slice(&kinds())?;
-    turns.extend_from_slice(&setting())?;
-    turns.extend_from_slice(&sweeps())?;
-    turns.extend_from_slice(&doors())?;
-    turns.extend_from_slice(&damages())?;
-    turns.extend_from_slice(&weighed_ends())?;
-    Ok(turns)
+// How many turns there are.
+pub const TURNS: u32 = 318;
+
+// Turn i, scene by scene; a listing past the last one.
+pub fn turn_at(i: u32) -> Turn {
+    let scenes: [&[Turn]; 13] = [
+        &openings(),
+        &orders(),
+        &stamps(),
+        &weights_run(),
+        &sizes(),
+        &slots_run(),
+        &rows_run(),
+        &kinds(),
+        &setting(),
+        &sweeps(),
+        &doors(),
+        &damages(),
+        &weighed_ends(),
+    ];
+    let mut place = i as usize;
+    for scene in scenes {
+        if let Some(turn) = scene.get(place) {
+            return *turn;
+        }
+        place = place.saturating_sub(scene.len());
+    }
+    asked(Command::List)
 }
 
 // ---- how a turn is told
