@@ -1,16 +1,18 @@
 // One line of the script, carried out on a state that is lent.
 #![tactic(auto)]
 
-ghost use Rattle.std.specs.Prelude.{◌≡◌};
+ghost use Rattle.std.specs.Prelude.{suc, ◌*◌, ◌≡◌};
+ghost use Rattle.head.specs.Fields.{Reach};
 ghost use Rattle.state.specs.State.{held, lent, viewed, SameLists, SameRows};
-ghost use Rattle.script_digits.specs.Laid.{Laid};
-ghost use Rattle.script_write.specs.Lines.{row_word, row_lines};
+ghost use Rattle.script_digits.specs.Laid.{Laid, Left, Added};
+ghost use Rattle.script_write.specs.Lines.{most_line, row_word, row_lines};
 ghost use Rattle.script_read.specs.Grammar.{understood};
 ghost use Rattle.script_turn.specs.Turned.{begun, Turns};
 ghost use Rattle.script_turn.specs.Took.{Takes, Took};
 ghost use Rattle.script_turn.specs.Replies.{is_listing, listed, rows_from, Roomy, shown, replied};
 
 use head::{Answer, Form, Head, Refusal};
+use script_digits::Text;
 use script_read::Line;
 use state::{Fields, FieldsView, State};
 
@@ -60,16 +62,14 @@ pub fn lists(line: Option<Line>) -> bool
     }
 }
 
-// Writes the lines of the first n rows.
-fn write_rows(buffer: &mut [u8], stay: bool, rows: &FieldsView<'_>, n: u32) -> usize
-    requires { Roomy n (viewed rows.now) buffer.old }
-    ensures { Laid 0 (row_lines (row_word stay) (rows_from n (viewed rows.now))) result buffer.old buffer.new }
+// Writes the lines of the first n rows behind a text.
+fn write_rows(text: &mut Text<'_>, stay: bool, rows: &FieldsView<'_>, n: u32)
+    requires { Reach n (viewed rows.now) × Left (suc n * most_line) text.old }
+    ensures { Added (row_lines (row_word stay) (rows_from n (viewed rows.now))) text.old text.new }
 {
-    let mut at: usize = 0;
     for j in 0..n {
-        at = script_write::write_row(buffer, at, stay, rows.read(j));
+        script_write::write_row(text, stay, rows.read(j));
     }
-    at
 }
 
 // Writes the whole text of an answer: the lines of its rows, and the closing line. It answers how long the text is.
@@ -78,8 +78,10 @@ pub fn reply(buffer: &mut [u8], stay: bool, rows: &FieldsView<'_>, answer: Answe
     ensures { Laid 0 (replied stay (viewed rows.now) answer) result buffer.old buffer.new }
 {
     let n = rows.room().min(answer.rows() as usize) as u32;
-    let at = write_rows(buffer, stay, rows, n);
-    script_write::write_answer(buffer, at, answer)
+    let mut text = Text { buffer, end: 0 };
+    write_rows(&mut text, stay, rows, n);
+    script_write::write_answer(&mut text, answer);
+    text.end
 }
 
 // What a line says in return: the answer, and how much of the buffer its text takes.

@@ -1,11 +1,12 @@
--- A line's parts laid one after another, and the room that is left behind each.
+-- The most that a line's parts are long, and the room that is left behind each.
 -- Assumes nothing.
 use Prim.Native.Nat.{ℕ, ◌+◌, ◌≤◌}
 use mathlib.Core.Bool.{Bool, true, false}
 use mathlib.Core.List.{List, [], ◌∷◌}
 use native.Mathlib.Omega.{arith}
 use lib.ListN.{length, length-append}
-use Rattle.script_digits.specs.Laid.{Laid}
+use Rattle.script_digits.specs.declared.Text.{Text}
+use Rattle.script_digits.specs.Laid.{Left, Added}
 use Rattle.script_digits.specs.Decimal.{digits_of}
 use Rattle.script_digits.proofs.Laying.{laid_size}
 use Rattle.head.specs.declared.Row.{Row}
@@ -28,5 +29,5 @@ row_most listed e =
     (omega (arith, row_word_most listed, digits_most e.code.0, digits_most e.stamp, digits_most e.value, digits_most e.weight))
 
 -- behind a part of at most j bytes there is room for k, where there was room for both
-pub behind : {at m : ℕ} {xs b₀ b₁ : List ℕ} (j k : ℕ) → length xs ≤ j → Laid at xs m b₀ b₁ → at + (j + k) ≤ length b₀ → m + k ≤ length b₁
-behind j k h l r = omega (arith, l.next, laid_size l)
+pub behind : {xs : List ℕ} {t u : Text} (j k : ℕ) → length xs ≤ j → Added xs t u → Left (j + k) t → Left k u
+behind j k h a r = omega (arith, a.laid.next, laid_size a.laid)

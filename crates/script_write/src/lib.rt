@@ -1,91 +1,83 @@
-// An answer and its rows as lines, in bytes. Each function writes from a place on, and answers the place after what it wrote.
+// An answer and its rows as lines, in bytes. Each function writes behind a text.
 #![tactic(auto)]
 
-ghost use Rattle.std.specs.Prelude.{cond, [], ◌∷◌, ◌+◌, ◌≤◌, length};
-ghost use Rattle.script_digits.specs.Laid.{Room, Laid};
+ghost use Rattle.std.specs.Prelude.{cond, [], ◌∷◌, ◌+◌, length};
+ghost use Rattle.script_digits.specs.Laid.{Room, Left, Added};
 ghost use Rattle.script_write.specs.Lines.{field, numbered, now_line, row_word, row_line, entry_lines, closing_line, most_field, most_line};
 
 use head::{Answer, Row};
-
-fn write_word(buffer: &mut [u8], at: usize, word: &[u8]) -> usize
-    requires { Room at word.now buffer.old }
-    ensures { Laid at word.now result buffer.old buffer.new }
-{
-    let next = at + word.len();
-    buffer[at..next].copy_from_slice(word);
-    next
-}
+use script_digits::Text;
 
 // One of two words.
-fn write_either(buffer: &mut [u8], at: usize, first: bool, one: &[u8], other: &[u8]) -> usize
-    requires { Room at one.now buffer.old × Room at other.now buffer.old }
-    ensures { Laid at (cond first one.now other.now) result buffer.old buffer.new }
+fn write_either(text: &mut Text<'_>, first: bool, one: &[u8], other: &[u8])
+    requires { Left (length one.now) text.old × Left (length other.now) text.old }
+    ensures { Added (cond first one.now other.now) text.old text.new }
 {
-    write_word(buffer, at, if first { one } else { other })
+    text.word(if first { one } else { other });
 }
 
 // A number and the byte after it.
-fn write_field(buffer: &mut [u8], at: usize, n: u64, end: u8) -> usize
-    requires { at + most_field ≤ length buffer.old }
-    ensures { Laid at (field n (end ∷ [])) result buffer.old buffer.new }
+fn write_field(text: &mut Text<'_>, n: u64, end: u8)
+    requires { Left most_field text.old }
+    ensures { Added (field n (end ∷ [])) text.old text.new }
 {
-    let next = script_digits::write(buffer, at, n);
-    script_digits::put(buffer, next, end)
+    text.number(n);
+    text.put(end);
 }
 
 // A word, a number and the end of the line.
-fn write_numbered(buffer: &mut [u8], at: usize, word: &[u8], n: u64) -> usize
-    requires { at + (length word.now + most_field) ≤ length buffer.old }
-    ensures { Laid at (numbered word.now n) result buffer.old buffer.new }
+fn write_numbered(text: &mut Text<'_>, word: &[u8], n: u64)
+    requires { Left (length word.now + most_field) text.old }
+    ensures { Added (numbered word.now n) text.old text.new }
 {
-    let next = write_word(buffer, at, word);
-    write_field(buffer, next, n, b'\n')
+    text.word(word);
+    write_field(text, n, b'\n');
 }
 
 // The line of a row: listed, or of an entry that went out.
-pub fn write_row(buffer: &mut [u8], at: usize, listed: bool, row: Row) -> usize
-    requires { at + most_line ≤ length buffer.old }
-    ensures { Laid at (row_line (row_word listed) row) result buffer.old buffer.new }
+pub fn write_row(text: &mut Text<'_>, listed: bool, row: Row)
+    requires { Left most_line text.old }
+    ensures { Added (row_line (row_word listed) row) text.old text.new }
 {
-    let a = write_either(buffer, at, listed, b"row ", b"out ");
-    let b = write_field(buffer, a, row.code.0, b' ');
-    let c = write_field(buffer, b, u64::from(row.stamp), b' ');
-    let d = write_field(buffer, c, row.value, b' ');
-    write_field(buffer, d, row.weight, b'\n')
+    write_either(text, listed, b"row ", b"out ");
+    write_field(text, row.code.0, b' ');
+    write_field(text, u64::from(row.stamp), b' ');
+    write_field(text, row.value, b' ');
+    write_field(text, row.weight, b'\n');
 }
 
-fn write_now(buffer: &mut [u8], at: usize, value: u64, new: bool) -> usize
-    requires { at + most_line ≤ length buffer.old }
-    ensures { Laid at (now_line value new) result buffer.old buffer.new }
+fn write_now(text: &mut Text<'_>, value: u64, new: bool)
+    requires { Left most_line text.old }
+    ensures { Added (now_line value new) text.old text.new }
 {
-    let a = write_word(buffer, at, b"now ");
-    let b = write_field(buffer, a, value, b' ');
-    write_either(buffer, b, new, b"new\n", b"old\n")
+    text.word(b"now ");
+    write_field(text, value, b' ');
+    write_either(text, new, b"new\n", b"old\n");
 }
 
-fn write_entry(buffer: &mut [u8], at: usize, row: Row) -> usize
-    requires { at + most_line ≤ length buffer.old }
-    ensures { Laid at (entry_lines row) result buffer.old buffer.new }
+fn write_entry(text: &mut Text<'_>, row: Row)
+    requires { Left most_line text.old }
+    ensures { Added (entry_lines row) text.old text.new }
 {
-    let next = write_row(buffer, at, true, row);
-    write_word(buffer, next, b"ok\n")
+    write_row(text, true, row);
+    text.word(b"ok\n");
 }
 
 // The closing line of an answer.
-pub fn write_answer(buffer: &mut [u8], at: usize, answer: Answer) -> usize
-    requires { at + most_line ≤ length buffer.old }
-    ensures { Laid at (closing_line answer) result buffer.old buffer.new }
+pub fn write_answer(text: &mut Text<'_>, answer: Answer)
+    requires { Left most_line text.old }
+    ensures { Added (closing_line answer) text.old text.new }
 {
     match answer {
-        Answer::No(why) => write_numbered(buffer, at, b"no ", u64::from(why.number())),
-        Answer::New { .. } => write_word(buffer, at, b"new\n"),
-        Answer::Was { value, .. } => write_numbered(buffer, at, b"was ", value),
-        Answer::Is(value) => write_numbered(buffer, at, b"is ", value),
-        Answer::Now { value, new, .. } => write_now(buffer, at, value, new),
-        Answer::Absent => write_word(buffer, at, b"absent\n"),
-        Answer::Entry(row) => write_entry(buffer, at, row),
-        Answer::Done { .. } => write_word(buffer, at, b"ok\n"),
-        Answer::Count(k) => write_numbered(buffer, at, b"count ", k),
-        Answer::Flag(yes) => write_either(buffer, at, yes, b"true\n", b"false\n"),
+        Answer::No(why) => write_numbered(text, b"no ", u64::from(why.number())),
+        Answer::New { .. } => text.word(b"new\n"),
+        Answer::Was { value, .. } => write_numbered(text, b"was ", value),
+        Answer::Is(value) => write_numbered(text, b"is ", value),
+        Answer::Now { value, new, .. } => write_now(text, value, new),
+        Answer::Absent => text.word(b"absent\n"),
+        Answer::Entry(row) => write_entry(text, row),
+        Answer::Done { .. } => text.word(b"ok\n"),
+        Answer::Count(k) => write_numbered(text, b"count ", k),
+        Answer::Flag(yes) => write_either(text, yes, b"true\n", b"false\n"),
     }
 }

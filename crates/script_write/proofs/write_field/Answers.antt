@@ -2,14 +2,15 @@
 -- Assumes nothing.
 use native.Mathlib.Omega.{arith}
 use Rattle.script_digits.proofs.Decimals.{digits_most}
-use Rattle.script_digits.proofs.Laying.{laid_then}
+use Rattle.script_digits.proofs.Laying.{added_then}
+use Rattle.script_write.proofs.Parts.{behind}
 use Rattle.script_write.proofs.write_field.Goals as goal
 
-pub write-next-requires : goal.write-next-requires
-write-next-requires c = omega (arith, digits_most c.args.n)
+pub number-requires : goal.number-requires
+number-requires c = omega (arith, digits_most c.args.n)
 
 pub put-requires : goal.put-requires
-put-requires c = omega (arith, digits_most c.args.n, c.write-next.ensures.next, c.write-next.auto.buffer, c.requires)
+put-requires c = behind 20 1 (digits_most c.args.n) c.number.ensures c.requires
 
 pub returns : goal.returns
-returns c = laid_then c.write-next.ensures c.put.ensures
+returns c = added_then c.number.ensures c.put.ensures

@@ -1,2 +1,0 @@
--- `script_turn::take` meets its contract.
--- Assumes nothing.
