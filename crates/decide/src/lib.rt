@@ -42,7 +42,8 @@ fn wanted_by(command: Command) -> Option<Code>
     }
 }
 
-// The one search of a call, for the code that its command looks for. Where it looks for none no cell is read, and nobody reads the answer.
+// The one search of a call, for the code that its command looks for. Where it looks for none no cell is read, and nobody reads the answer, which the
+// definition `search_for` names.
 fn seek(view: &View<'_>, command: Command) -> Search
     requires { Gapped (2 * view.now.head.slots) view.now.cells.now view.now.fields.codes.now }
     ensures { result ≡ search_for (wanted_by command) view.now.head.slots view.now.cells.now view.now.fields.codes.now }

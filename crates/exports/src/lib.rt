@@ -10,7 +10,7 @@ ghost use Rattle.exports.specs.Exchange.{kind_for, opened_number, opened_left, O
 use head::{Head, Refusal};
 use state::{Fields, FieldsView, Links, LinksView, State, Table, View};
 
-// The kind to open with: none that exists where the head's list is too short for a head.
+// The kind to open with: a number of none that exists where the head's list is too short for a head, as `open` takes it.
 fn kind_for(kind: u32, room: usize) -> u32
     ensures { result ≡ kind_for kind room }
 {

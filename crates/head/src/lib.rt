@@ -49,7 +49,7 @@ impl Head {
     pub const MOST_CAPACITY: u64 = 9223372036854775807;
 
     pub const MOST_SLOTS: u32 = 4096;
-    // No slot: the end of a list, an empty cell.
+    // Marks that 01 names, for lists of plain numbers have no Option. No slot: the end of a list, an empty cell.
     pub const NONE: u32 = 4294967295;
     // The next link of a slot that holds no entry.
     pub const UNUSED: u32 = 4294967294;

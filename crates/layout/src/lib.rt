@@ -17,7 +17,8 @@ pub fn narrow(x: u64) -> u32
     u32::try_from(x).unwrap_or(Head::UNUSED)
 }
 
-// The head that a list holds. One that is too short, or an answer list with too little room, gives a head of no kind, which no call takes for sound.
+// The head that a list holds. One that is too short, or an answer list with too little room, gives a head of no kind, which no call takes for sound: the
+// clause names that head, where an Option would only say that there is none.
 #[tactic(auto, unfolding(crate::specs::Heads::head_of))]
 pub fn head_at(list: &[u64], room: usize) -> Head
     ensures { result ≡ head_of list.now room }
@@ -162,7 +163,8 @@ fn command_of(number: u64, a: u64, b: u64, c: u64, d: u64) -> Option<Command>
     })
 }
 
-// The call that a list holds. What is not understood becomes a resize to 0, which a sound cache refuses with 8.
+// The call that a list holds. What is not understood becomes a resize to 0, which a sound cache refuses with 8: the clause
+// names that command, where an Option would only say that there is none.
 #[tactic(auto, unfolding(crate::specs::Commands::command_in))]
 pub fn command_at(list: &[u64]) -> Command
     ensures { result ≡ command_in list.now }

@@ -174,7 +174,7 @@ pub fn evict(head: Head, links: &mut Links<'_>, k: u32) -> Head
     left
 }
 
-// Fills the first n places with v.
+// Fills the first n places with v. The slice's own `fill` was tried: for a T that is only Copy the proof did not close.
 pub fn fill<T: Copy>(list: &mut [T], n: u32, v: T)
     requires { n ≤ length list.old }
     ensures { list.new ≡ replicate n v ++ drop n list.old }

@@ -9,7 +9,8 @@ ghost use Rattle.std.specs.Prelude.{◌≡◌};
 use head::{Head, Refusal};
 use state::State;
 
-// Opens a cache in lists that may hold anything: what N slots need is made empty, and the state has the fresh head. Refused, all stays as it was.
+// Opens a cache in lists that may hold anything: what N slots need is made empty, and the state has the fresh head. Refused, all stays as it was. The kind
+// is a number: 01 refuses any but the two with 1.
 pub fn open(kind: u32, capacity: u64, slots: u32, state: &mut State<'_>) -> Result<Head, Refusal>
     ensures lists { SameLists state.old state.new }
     ensures head { state.new.head ≡ head_left state.old.head result }

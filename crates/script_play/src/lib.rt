@@ -29,7 +29,8 @@ fn next_line(written: bool, to: usize, n: usize) -> usize
     if written { to + 1 } else { n }
 }
 
-// Carries out the lines of the input, one after another, until one's answer cannot be written, and says whether every answer was written.
+// Carries out the lines of the input, one after another, until one's answer cannot be written, and says whether every answer was written. The
+// input's length goes beside it: `Played`, which docs/PROOFS.md names, speaks of the first n bytes.
 fn play(
     rt: &impl Print,
     input: &[u8],

@@ -12,6 +12,7 @@ use head::{Code, Command, Head, Rule};
 #[derive(Debug, Clone, Copy, PartialEq, Eq)]
 pub enum Line {
     Open {
+        // A number, as `open` takes it.
         kind: u32,
         capacity: u64,
         slots: u32,
@@ -84,6 +85,7 @@ fn read_numbers(mut rest: &[u8]) -> Option<Numbers>
     ensures { result ≡ numbers_of (words_past rest.now) }
 {
     let mut numbers = Numbers::Nought;
+    // It goes on while there is a word; no turn is counted.
     while let Some((word, behind)) = next_word(rest) {
         numbers = numbers.with(read_number(word)?)?;
         rest = behind;

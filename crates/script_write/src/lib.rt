@@ -1,4 +1,5 @@
-// An answer and its rows as lines, in bytes. Each function writes behind a text.
+// An answer and its rows as lines, in bytes. Each function writes behind a text: their clauses name the
+// bytes of the lent buffer, so none of them is a Display.
 #![tactic(auto)]
 
 ghost use Rattle.std.specs.Prelude.{cond, [], ◌∷◌, ◌+◌, length};

@@ -36,7 +36,7 @@ pub fn set_value(values: &mut [u64], slot: Slot, value: u64)
     values[slot.0 as usize] = value;
 }
 
-// The acts of the table, on two parts of a state that are lent side by side.
+// The acts of the table, on two parts of a state that are lent side by side: of a list lent straight out of a part nothing is known in the end.
 
 fn insert(cells: &mut &mut [u32], fields: &Fields<'_>, n: usize, slot: Slot)
     requires { Slotted (2 * n) cells.old.now fields.now.codes.now slot.0 }

@@ -97,6 +97,7 @@ pub fn remove(cells: &mut [u32], codes: &[u64], n: usize, cell: usize)
     let mut hole = cell;
     let mut at = after(cell, m);
     let mut first = at;
+    // It goes on to the next empty cell; no turn is counted.
     while cells[at] != Head::NONE {
         let slot = cells[at];
         let home = crc::home(Code(codes[slot as usize]), n);

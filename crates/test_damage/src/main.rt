@@ -12,9 +12,9 @@ use sheet::{State, Tail};
 use std::io;
 
 // Runs the first so many states, each with two kinds of tail, with so many draws of two numbers, and writes how it went.
-pub fn drive(rt: &impl Print, states: usize, pairs: u64) -> io::Result<()> {
+pub fn drive(rt: &impl Print, states: u64, pairs: u64) -> io::Result<()> {
     let mut trial = Trial::new();
-    for sample in SAMPLES.iter().take(states) {
+    for sample in SAMPLES.iter().take(states as usize) {
         trial.state(&State::of(sample, Tail::Blank), pairs);
         trial.state(&State::of(sample, Tail::Sevens), pairs);
     }
