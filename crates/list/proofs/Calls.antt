@@ -24,6 +24,14 @@ kept_fewer s a = record { nexts = λ i c. a.nexts i (omega arith); prevs = λ i 
 -- ---- unlinked, then put in front
 
 module _ (h m r : Head) (nx pv nx1 pv1 nx' pv' : List ℕ) (s : ℕ) (u : Unlinked h m nx pv nx1 pv1 s) where
+  -- a slot that lay within the lists lies within them still once it is unlinked
+  pub room_after : Room h nx pv s → Room m nx1 pv1 s
+  room_after p = record {
+    slot = omega (arith, p.slot, u.rest.slots);
+    nexts = omega (arith, p.nexts, u.rest.slots, u.next_tail.size);
+    prevs = omega (arith, p.prevs, u.rest.slots, u.prev_tail.size);
+  }
+
   pub moved : Fronted m r nx1 pv1 nx' pv' s → Moved h r nx pv nx' pv' s
   moved g = record {
     rest = rest_trans u.rest g.rest;

@@ -2,21 +2,22 @@
 -- Assumes nothing.
 use Prim.Native.Nat.{ℕ, suc, ◌+◌, ◌≤◌, ◌<◌}
 use native.Mathlib.Omega.{arith}
-use mathlib.Core.Path.{◌≡◌, refl, sym, ap, ◌∙◌}
+use mathlib.Core.Path.{◌≡◌, refl, sym, ap, ◌∙◌, subst}
 use mathlib.Core.Logic.{⊎_elim}
 use mathlib.Core.List.{List, [], ◌∷◌, ◌++◌}
 use lib.ListN.{length, get_or, take, drop}
 use lib.Seq.{drop-cons, take-suc, split_at}
 use Rattle.head.specs.declared.Head.{Head}
 use Rattle.head.specs.Bounds.{none_mark, unused_mark}
+use Rattle.model.specs.Lists.{without}
 use Rattle.model.specs.Codes.{count}
 use Rattle.model.proofs.Counting.{count_append}
 use Rattle.list.specs.Order.{head_or, last_or, next_at, prev_at, place_at}
 use Rattle.list.specs.Links.{Linked, Sound}
-use Rattle.list.specs.Promises.{Held}
+use Rattle.list.specs.Promises.{Held, Removed, Moved}
 use Rattle.list.proofs.Marks.{same?, under?, hit, miss, ifeq_same, ifeq_other}
 use Rattle.list.proofs.Chain.{last_append, next_at_lem, prev_at_lem, next_absent}
-use Rattle.list.proofs.Places.{stands}
+use Rattle.list.proofs.Places.{stands, only_mid, without_mid}
 use Rattle.list.proofs.Within.{in_slots, once, held}
 
 -- a slot of the order never has the unused mark
@@ -42,6 +43,14 @@ module _ {h : Head} {nx pv st o f t : List ℕ} (d : Linked h nx pv st o f t) wh
   marked_used i c e =
       next_used h.slots o i (omega (arith, d.long.small)) (λ j k. in_slots d j (omega arith)) c
       (sym (d.nexts i (in_slots d i (omega arith)) (omega (arith, once d i))) ∙ e)
+
+  -- the head's front is the slot that the order begins with
+  pub first_at : (x : ℕ) (b : List ℕ) → o ≡ x ∷ b → h.front.0 ≡ x
+  first_at x b e = d.front ∙ ap (head_or none_mark) e
+
+  -- and none where nothing is held
+  pub none_at : o ≡ [] → h.front.0 ≡ none_mark
+  none_at e = d.front ∙ ap (head_or none_mark) e
 
   module _ (a : List ℕ) (x : ℕ) (b : List ℕ) (e : o ≡ a ++ x ∷ b) where
     here : count x o ≡ count x a + count x (x ∷ b)
@@ -90,3 +99,20 @@ module _ {h : Head} {nx pv st o f t : List ℕ} (d : Linked h nx pv st o f t) (j
 
   pub walk_back : get_or pv (last_or none_mark (take (suc j) o)) 0 ≡ last_or none_mark (take j o)
   walk_back = ap (λ (i : ℕ). get_or pv i 0) (slot_back o j l) ∙ predecessor d (take j o) (get_or o j 0) (drop (suc j) o) (split_at o j 0 l)
+
+-- ---- a slot in the middle, named by what stands round it
+
+module _ {h r : Head} {nx pv st nx' pv' f t : List ℕ} (a : List ℕ) (s : ℕ) (b : List ℕ) (d : Linked h nx pv st (a ++ s ∷ b) f t) where
+  -- removed, it stands on the stack
+  pub removed_mid : {st' : List ℕ} → Removed h r nx pv st nx' pv' st' s → Linked r nx' pv' st' (a ++ b) (f ++ s ∷ []) t
+  removed_mid {st'} p =
+      subst (λ (l : List ℕ). Linked r nx' pv' st' l (f ++ s ∷ []) t) (without_mid a s b)
+      (subst (λ (l : List ℕ). Linked r nx' pv' st' (without (length a) (a ++ s ∷ b)) (f ++ l) t) (only_mid a s b)
+      (p.linked (a ++ s ∷ b) f t (length a) (only_mid a s b) d))
+
+  -- moved, it stands in front
+  pub moved_mid : Moved h r nx pv nx' pv' s → Linked r nx' pv' st (s ∷ a ++ b) f t
+  moved_mid p =
+      subst (λ (l : List ℕ). Linked r nx' pv' st (s ∷ l) f t) (without_mid a s b)
+      (subst (λ (l : List ℕ). Linked r nx' pv' st (l ++ without (length a) (a ++ s ∷ b)) f t) (only_mid a s b)
+      (p.linked st (a ++ s ∷ b) f t (length a) (only_mid a s b) d))

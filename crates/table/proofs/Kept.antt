@@ -2,7 +2,7 @@
 -- Assumes nothing.
 use mathlib.Core.Path.{◌≡◌, sym, ◌∙◌, subst}
 use mathlib.Core.List.Memᴰ
-use mathlib.Core.List.{List, [], ◌∷◌, Memᴰ}
+use mathlib.Core.List.{List, [], ◌∷◌, ◌++◌, Memᴰ}
 use Prim.Native.Nat.{ℕ, ◌≤◌, ◌<◌}
 use native.Mathlib.Omega.{arith}
 use lib.ListN.{length, get_or, drop, replicate, length-append, length-replicate, length-drop, get_or-replicate, get_or-append}
@@ -12,7 +12,7 @@ use Rattle.table.specs.Sound.{Run, Sound}
 use Rattle.table.specs.Orders.{Same, Without, omit}
 use Rattle.head.specs.Tails.{Tail}
 use Rattle.table.specs.Acts.{TakenOut, cleared}
-use Rattle.table.proofs.Members.{front_same, front_short}
+use Rattle.table.proofs.Members.{place_without, front_same, front_short}
 
 -- slot s is taken out: the table describes any list of the others
 pub removed_sound : {home : ℕ → ℕ} {m s : ℕ} {codes cells cells' order order' : List ℕ}
@@ -72,6 +72,11 @@ order_sound d l same =
 -- a slot moved to the front
 pub front_sound : {home : ℕ → ℕ} {m s : ℕ} {cells codes order : List ℕ} → Sound home m cells codes order → Memᴰ s order → Sound home m cells codes (s ∷ omit s order)
 front_sound d h = order_sound d (omega (arith, d.room, front_short h)) (front_same h)
+
+-- slot s left out at its place
+pub place_sound : {home : ℕ → ℕ} {m s : ℕ} {codes cells cells' : List ℕ} (xs ys : List ℕ) → Sound home m cells codes (xs ++ s ∷ ys) → TakenOut home m codes s cells cells'
+    → (Memᴰ s (xs ++ ys) → ⊥) → Sound home m cells' codes (xs ++ ys)
+place_sound {s} xs ys d r n = removed_sound d r (place_without xs ys s n)
 
 -- what `clear` leaves
 pub clear_sound : {home : ℕ → ℕ} {m : ℕ} (cells codes : List ℕ) → m ≤ length cells → 0 < m → Sound home m (cleared m cells) codes []

@@ -3,11 +3,11 @@
 use mathlib.Core.Path.{◌≡◌, sym, ap, ◌∙◌, subst}
 use mathlib.Core.Logic.{◌≢◌, ⊎_elim}
 use mathlib.Core.List.Memᴰ
-use mathlib.Core.List.{List, [], ◌∷◌, Memᴰ}
+use mathlib.Core.List.{List, [], ◌∷◌, ◌++◌, Memᴰ}
 use Prim.Native.Nat.{ℕ, suc, ◌+◌, ◌-◌, ◌≤◌, ◌<◌, zero-le}
 use native.Mathlib.Omega.{arith}
 use borrow.Author.Tests.{eq-eqb, ne_eqb}
-use lib.ListN.{length, get_or}
+use lib.ListN.{length, get_or, length-append}
 use Rattle.head.specs.Walks.{walk}
 use Rattle.table.specs.Orders.{Same, Without, omit}
 use Rattle.table.proofs.Ring.{eq_or_ne}
@@ -56,6 +56,15 @@ omit_other s (x ∷ xs) y h =
 -- leaving a slot out by its number
 pub omit_without : (s : ℕ) (order : List ℕ) → Without s order (omit s order)
 omit_without s order = record { short = omit_short s order; keeps = omit_keeps s order; other = omit_other s order }
+
+-- leaving a slot out at its place, if it stands nowhere else
+pub place_without : (xs ys : List ℕ) (s : ℕ) → (Memᴰ s (xs ++ ys) → ⊥) → Without s (xs ++ s ∷ ys) (xs ++ ys)
+place_without xs ys s n =
+    record {
+      short = omega (arith, length-append xs (s ∷ ys), length-append xs ys);
+      keeps = λ x e h. ⊎_elim (λ k. Memᴰ.append_left ys k) (λ k. ⊎_elim (λ (q : x ≡ s). absurd (e q)) (λ w. Memᴰ.append_right xs w) (Memᴰ.cases_cons k)) (Memᴰ.append_cases xs h);
+      other = λ x h. (⊎_elim (λ k. Memᴰ.append_left (s ∷ ys) k) (λ k. Memᴰ.append_right xs (Memᴰ.tail k)) (Memᴰ.append_cases xs h), λ q. n (Memᴰ.cast (sym q) h));
+    }
 
 -- ---- rearranged
 
