@@ -189,8 +189,10 @@ fn stack_blank(fields: &FieldsView<'_>, stack: &[u32], depth: u32) -> bool
     requires { Piled (viewed fields.now) stack.now depth }
     ensures { result ≡ all_from depth 0 (stack_blank (viewed fields.now) stack.now) }
 {
+    // A copy of the view: its lists need not be looked up anew at each slot.
+    let lists = *fields;
     for slot in &stack[..depth as usize] {
-        if !blank_at(fields, *slot) {
+        if !blank_at(&lists, *slot) {
             return false;
         }
     }
@@ -220,7 +222,7 @@ pub fn inspect(view: &View<'_>) -> bool
     let top = head.top.0;
     let next = view.links.next;
     head_ok(head)
-        && store::long_enough(n, view)
+        && store::has_room(n, view)
         && links_ok(head, next, view.links.prev, view.links.stack)
         && cells_full(view.cells, n, head.live)
         && table_ok(view.cells, view.fields.codes, next, n as usize, top)

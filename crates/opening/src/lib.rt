@@ -16,7 +16,8 @@ pub fn open(kind: u32, capacity: u64, slots: u32, state: &mut State<'_>) -> Resu
     ensures head { state.new.head ≡ head_left state.old.head result }
     ensures opens { Opens kind capacity slots (headed (fresh_head kind capacity slots) (lent state.old)) (headed (fresh_head kind capacity slots) (lent state.new)) result }
 {
-    if !Head::allows(kind, capacity, slots) || !store::long_enough(slots, &state.view()) {
+    let view = state.view();
+    if !Head::allows(kind, capacity, slots) || !store::has_room(slots, &view) {
         return Err(Refusal::NotOpened);
     }
     state.head = Head::fresh(kind, capacity, slots);

@@ -7,25 +7,52 @@ ghost use Rattle.crc.specs.Home.{home_of};
 ghost use Rattle.head.specs.Walks.{walk};
 ghost use Rattle.table.specs.Acts.{Slotted, Live, TakenOut, Rebuilt, inserted};
 ghost use Rattle.table.specs.Links.{Keyed};
-ghost use Rattle.store.specs.Lengths.{spacious};
+ghost use Rattle.store.specs.Lengths.{long_enough, spacious};
 ghost use Rattle.store.specs.Acts.{Occupied, Dropped, Admits, Added, Rich, Shed, Spacious, Emptied, Holds, Capped};
 
 use head::{Head, Row, Slot};
 use state::{Fields, Links, State, View};
 
-// Whether the lists have room for n slots.
-pub fn long_enough(n: u32, view: &View<'_>) -> bool
-    ensures { result ≡ spacious n (seen view.now) }
+// Whether lists of these lengths have room for n slots: a caller can ask it before it has the lists.
+pub fn long_enough(
+    n: u32,
+    codes: usize,
+    stamps: usize,
+    values: usize,
+    weights: usize,
+    next: usize,
+    prev: usize,
+    stack: usize,
+    cells: usize,
+) -> bool
+    ensures { result ≡ long_enough n codes stamps values weights next prev stack cells }
 {
     let m = n as usize;
-    m <= view.fields.codes.len()
-        && m <= view.fields.stamps.len()
-        && m <= view.fields.values.len()
-        && m <= view.fields.weights.len()
-        && m <= view.links.next.len()
-        && m <= view.links.prev.len()
-        && m <= view.links.stack.len()
-        && 2 * m <= view.cells.len()
+    m <= codes
+        && m <= stamps
+        && m <= values
+        && m <= weights
+        && m <= next
+        && m <= prev
+        && m <= stack
+        && 2 * m <= cells
+}
+
+// Whether the lists of a state have room for n slots.
+pub fn has_room(n: u32, view: &View<'_>) -> bool
+    ensures { result ≡ spacious n (seen view.now) }
+{
+    long_enough(
+        n,
+        view.fields.codes.len(),
+        view.fields.stamps.len(),
+        view.fields.values.len(),
+        view.fields.weights.len(),
+        view.links.next.len(),
+        view.links.prev.len(),
+        view.links.stack.len(),
+        view.cells.len(),
+    )
 }
 
 // Sets the value in a slot.
