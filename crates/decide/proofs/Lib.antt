@@ -1,4 +1,5 @@
 pub mod Refusing
+pub mod Wanting
 pub mod Pointing
 pub mod Finding
 pub mod Putting
