@@ -13,11 +13,11 @@ pub fn save(records: &mut [Row], rows: &FieldsView<'_>, count: u32) -> bool
     ensures { Saved count (viewed rows.now) records.old records.new result }
 {
     let n = count as usize;
-    let fits = n <= records.len()
-        && n <= rows.codes.len()
-        && n <= rows.stamps.len()
-        && n <= rows.values.len()
-        && n <= rows.weights.len();
+    let fits = (n <= records.len())
+        & (n <= rows.codes.len())
+        & (n <= rows.stamps.len())
+        & (n <= rows.values.len())
+        & (n <= rows.weights.len());
     if fits {
         for i in 0..count {
             records[i as usize] = rows.read(i);
