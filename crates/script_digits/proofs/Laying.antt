@@ -1,11 +1,12 @@
 -- Bytes laid one after another, and added to a text one after another.
 -- Assumes nothing.
-use Prim.Native.Nat.{ℕ, ◌+◌, ◌≤◌}
-use mathlib.Core.List.{List, [], ◌++◌, append_assoc}
+use Prim.Native.Nat.{ℕ, ◌+◌, ◌≤◌, ◌<◌}
+use mathlib.Core.List.{List, [], ◌∷◌, ◌++◌, append_assoc}
 use mathlib.Core.Path.{◌≡◌, refl, sym, ap, ◌∙◌}
 use native.Mathlib.Omega.{arith}
-use lib.ListN.{length, take, drop, length-append, length-drop, take-append-drop}
-use lib.Seq.{length-take-le, take_at, drop_at, drop-drop}
+use native.Mathlib.Numerals.{add-one}
+use lib.ListN.{length, take, drop, set, length-append, length-drop, take-append-drop}
+use lib.Seq.{length-take-le, set_split, take_at, drop_at, drop-drop}
 use Rattle.script_digits.specs.declared.Text.{Text}
 use Rattle.script_digits.specs.Laid.{Laid, Added}
 
@@ -14,6 +15,14 @@ pub laid_none : (at : ℕ) (b : List ℕ) → at ≤ length b → Laid at [] at 
 laid_none at b h =
     let z : at + 0 ≡ at = omega arith in
     record { room = omega arith; next = omega arith; same = sym (ap (λ (j : ℕ). take at b ++ drop j b) z ∙ take-append-drop at b) }
+
+-- one byte laid
+pub laid_one : {b a : List ℕ} (at x : ℕ) → at < length b → a ≡ set b at x → Laid at (x ∷ []) (at + 1) b a
+laid_one {b} at x h e = record {
+  room = omega arith;
+  next = refl;
+  same = e ∙ set_split b at x h ∙ ap (λ (j : ℕ). take at b ++ x ∷ drop j b) (sym (add-one at));
+}
 
 module _ {at : ℕ} {xs : List ℕ} {m : ℕ} {b₀ b₁ : List ℕ} (l : Laid at xs m b₀ b₁) where
   front : List ℕ

@@ -3,7 +3,21 @@
 
 ghost use Rattle.std.specs.Prelude.{[], ◌∷◌};
 ghost use Rattle.script_digits.specs.Decimal.{digits_of};
-ghost use Rattle.script_digits.specs.Laid.{Room, Added};
+ghost use Rattle.script_digits.specs.Laid.{Room, Laid, Added};
+
+// Writes the decimal digits of a number from a place on, and answers the place after them. The place goes by value: behind a text it would be stored and
+// read again for each digit.
+fn digits(buffer: &mut [u8], at: usize, n: u64) -> usize
+    requires { Room at (digits_of n) buffer.old }
+    ensures { Laid at (digits_of n) result buffer.old buffer.new }
+{
+    let mut end = at;
+    if n >= 10 {
+        end = digits(buffer, at, n / 10);
+    }
+    buffer[end] = b'0' + (n % 10) as u8;
+    end + 1
+}
 
 // A buffer that holds a text so far: its first `end` bytes.
 #[derive(Drop)]
@@ -37,9 +51,6 @@ impl Text<'_> {
         requires { Room self.old.end (digits_of n) self.old.buffer.now }
         ensures { Added (digits_of n) self.old self.new }
     {
-        if n >= 10 {
-            self.number(n / 10);
-        }
-        self.put(b'0' + (n % 10) as u8);
+        self.end = digits(self.buffer, self.end, n);
     }
 }
