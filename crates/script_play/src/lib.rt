@@ -2,6 +2,7 @@
 #![tactic(auto)]
 
 ghost use Rattle.std.specs.Prelude.{◌≡◌, ◌≤◌, length, IfOk};
+ghost use Rattle.head.specs.Fresh.{fresh_head};
 ghost use Rattle.state.specs.State.{held, lent};
 ghost use Rattle.script_play.specs.Cutting.{line_end, next_line};
 ghost use Rattle.script_play.specs.Playing.{Plays, Played, handed};
@@ -29,8 +30,8 @@ fn next_line(written: bool, to: usize, n: usize) -> usize
     if written { to + 1 } else { n }
 }
 
-// Carries out the lines of the input, one after another, until one's answer cannot be written, and says whether every answer was written. The
-// input's length goes beside it: `Played`, which docs/PROOFS.md names, speaks of the first n bytes.
+// Carries out the lines of the input, one after another, until one's answer cannot be written, and says whether every answer was written. Before the
+// first opening the head describes no cache. The input's length goes beside it: `Played`, which docs/PROOFS.md names, speaks of the first n bytes.
 fn play(
     rt: &impl Print,
     input: &[u8],
@@ -39,7 +40,8 @@ fn play(
     rows: &mut Fields<'_>,
     out: &mut [u8],
 ) -> bool
-    requires { Plays input.now n (held rows.old) out.old }
+    requires unopened { state.old.head ≡ fresh_head 0 0 0 }
+    requires plays { Plays input.now n (held rows.old) out.old }
     ensures { Played input.now n (handed (lent state.old) (held rows.old) out.old) (handed (lent state.new) (held rows.new) out.new) result }
 {
     let mut written = true;

@@ -7,7 +7,7 @@ use Rattle.script_play.proofs.Playing.{going_first, going_cuts, going_inside, go
 use Rattle.script_play.proofs.play.Goals as goal
 
 pub loop-from-init : goal.loop-from-init
-loop-from-init g c = going_first c.requires
+loop-from-init g c = going_first c.requires.plays
 
 pub line_end-to-requires : goal.line_end-to-requires
 line_end-to-requires g c = going_cuts c.loop-from.invariant c.loop-from-test.true
