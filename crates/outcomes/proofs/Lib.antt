@@ -1,5 +1,6 @@
 pub mod Decided
 pub mod Same
+pub mod Lengths
 pub mod Public
 pub mod Counted
 pub mod Untouched
