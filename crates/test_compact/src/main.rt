@@ -6,7 +6,7 @@ ghost use Rattle.std.specs.Prelude.{◌≡◌, true};
 ghost use Rattle.state.specs.State.{seen};
 ghost use Rattle.compact.specs.Compact.{Resizable};
 
-use head::{Code, Head, Row, Slot};
+use head::{Code, Head, Place, Row, Slot};
 use state::{State, View};
 use std::cmp::Ordering;
 use std::io;
@@ -56,7 +56,7 @@ impl Fields {
     // The fields of an order: each slot holds the entry of its mark, or zeros where it is not in use.
     fn of(order: &Order) -> Fields {
         let mut fields = Fields::blank();
-        for entry in &order.entries {
+        for entry in order.entries.iter().take(order.live as usize) {
             fields.write(entry.slot, row_of(entry.mark));
         }
         fields
@@ -82,10 +82,21 @@ pub struct Lists {
 }
 
 impl Lists {
-    // The list with its fields that an order asks for, at a capacity.
+    // The list with its fields that an order asks for, at a capacity. The head's other numbers are written out: not by the calls that made the one under test.
     fn of(order: &Order, capacity: u64) -> Lists {
+        let head = Head {
+            kind: Head::WEIGHED,
+            capacity,
+            slots: 16,
+            live: 0,
+            weight: WEIGHT,
+            front: Slot(0),
+            back: Slot(0),
+            top: Slot(0),
+            depth: Place(0),
+        };
         Lists {
-            links: order.links(fresh(capacity)),
+            links: order.links(head),
             fields: Fields::of(order),
         }
     }
@@ -106,13 +117,13 @@ impl Lists {
     }
 
     // The entry in a slot leaves.
-    fn remove(&mut self, slot: Slot) {
+    fn remove(&mut self, slot: u64) {
         self.links.remove(slot);
         self.wipe();
     }
 
     // So many entries leave by the back.
-    fn evict(&mut self, count: u32) {
+    fn evict(&mut self, count: u64) {
         self.links.evict(count);
         self.wipe();
     }
@@ -178,14 +189,14 @@ fn fresh(capacity: u64) -> Head {
 enum Act {
     Push,
     Remove(usize),
-    Evict(u32),
+    Evict(u64),
     Resize(u64),
 }
 
 impl Act {
     // What a turn does on so many entries and a capacity, by two draws.
     fn drawn(r: u64, q: u64, live: u64, capacity: u64) -> Act {
-        let evict = Act::Evict((1 + q / 256 % 3).min(live) as u32);
+        let evict = Act::Evict((1 + q / 256 % 3).min(live));
         let shrink = Act::Resize(capacity.saturating_sub(1 + q / 64 % 5).max(1));
         let grow = Act::Resize(if capacity < 18 {
             capacity + 1 + q / 64 % 6
@@ -261,7 +272,7 @@ impl World {
     }
 
     // So many entries leave by the back, on both sides.
-    fn evict(&mut self, count: u32) {
+    fn evict(&mut self, count: u64) {
         self.lists.evict(count);
         self.order.evict(count);
     }
@@ -269,10 +280,11 @@ impl World {
     // Sets the capacity on both sides. First those leave that it cannot hold.
     fn resize(&mut self, capacity: u64) {
         let live = u64::from(self.order.live());
-        self.evict(live.saturating_sub(capacity) as u32);
+        self.evict(live.saturating_sub(capacity));
         self.lists.resize(capacity);
         if capacity < self.capacity {
-            self.order.compact(capacity);
+            let top = u64::from(self.order.top).min(capacity);
+            self.order.compact(top);
         }
         self.capacity = capacity;
     }
@@ -285,7 +297,7 @@ impl World {
                 self.order.push(mark);
             }
             Act::Remove(place) => {
-                self.lists.remove(self.order.slot_at(place));
+                self.lists.remove(u64::from(self.order.slot_at(place).0));
                 self.order.remove(place);
             }
             Act::Evict(count) => self.evict(count),

@@ -47,7 +47,8 @@ impl Links {
     }
 
     // A slot leaves, and comes on the stack.
-    pub fn remove(&mut self, slot: Slot) {
+    pub fn remove(&mut self, slot: u64) {
+        let slot = Slot(narrow(slot));
         let head = self.head;
         let mut links = self.lent();
         if holds(head, &links.view(), slot) {
@@ -56,7 +57,8 @@ impl Links {
     }
 
     // A slot of the list comes to the front.
-    pub fn raise(&mut self, slot: Slot) {
+    pub fn raise(&mut self, slot: u64) {
+        let slot = Slot(narrow(slot));
         let head = self.head;
         let mut links = self.lent();
         if holds(head, &links.view(), slot) {
@@ -65,7 +67,8 @@ impl Links {
     }
 
     // So many slots leave by the back.
-    pub fn evict(&mut self, count: u32) {
+    pub fn evict(&mut self, count: u64) {
+        let count = narrow(count);
         let head = self.head;
         let mut links = self.lent();
         if count <= head.live && is_sound(head, &links.view()) {
@@ -81,6 +84,11 @@ impl Links {
             self.head = list::clear(head, &mut links);
         }
     }
+}
+
+// The low 32 bits.
+fn narrow(x: u64) -> u32 {
+    (x % 4294967296) as u32
 }
 
 fn is_sound(head: Head, links: &LinksView<'_>) -> bool

@@ -13,7 +13,7 @@ enum Act {
     Push,
     Remove(usize),
     Move(usize),
-    Evict(u32),
+    Evict(u64),
     Clear,
 }
 
@@ -24,7 +24,7 @@ impl Act {
             return Act::Push;
         }
         let place = (q / 16 % live) as usize;
-        let evict = Act::Evict((1 + q / 256 % 3).min(live) as u32);
+        let evict = Act::Evict((1 + q / 256 % 3).min(live));
         match r / 2048 % 32 {
             0..=14 if live < 16 => Act::Push,
             15..=20 => Act::Remove(place),
@@ -90,11 +90,11 @@ impl World {
                 self.order.push(0);
             }
             Act::Remove(place) => {
-                self.list.remove(self.order.slot_at(place));
+                self.list.remove(u64::from(self.order.slot_at(place).0));
                 self.order.remove(place);
             }
             Act::Move(place) => {
-                self.list.raise(self.order.slot_at(place));
+                self.list.raise(u64::from(self.order.slot_at(place).0));
                 self.order.raise(place);
             }
             Act::Evict(count) => {
