@@ -1,0 +1,9 @@
+-- The bytes so far are within the buffer. The measure is how many bytes are left.
+use Rattle.std.proofs.Common.{◌-◌, ◌≤◌, length}
+use Rattle.test_replay.proofs.read_full.Given as goal
+
+abbrev pub invariant-loop-done : goal.invariant-loop-done
+invariant-loop-done g l = l.done ≤ length l.initial.buffer
+
+abbrev pub decreases-loop-done : goal.decreases-loop-done
+decreases-loop-done g l = length l.initial.buffer - l.done
