@@ -45,13 +45,15 @@ impl fmt::Display for Told {
     }
 }
 
-// The entry, or the row, at a place of the four lists; zeros past their end.
+// The entry, or the row, at a place of the four lists; in each 0 past its end. They are read here: what the library wrote and read exchanged would not show.
 fn entry_at(fields: &FieldsView<'_>, place: u32) -> Entry {
-    if (place as usize) < fields.room() {
-        Entry(fields.read(place))
-    } else {
-        Entry(Row::BLANK)
-    }
+    let i = place as usize;
+    Entry(Row {
+        code: Code(fields.codes.get(i).copied().unwrap_or(0)),
+        stamp: fields.stamps.get(i).copied().unwrap_or(0),
+        value: fields.values.get(i).copied().unwrap_or(0),
+        weight: fields.weights.get(i).copied().unwrap_or(0),
+    })
 }
 
 // Weight, top, live, the entries front to back, each behind its slot, the depth of the stack and the slots on it, bottom first.
@@ -157,10 +159,16 @@ fn main(rt: HostRuntime) -> io::Result<()> {
             head = state.head;
         }
         print!(rt; "{i} {t} > {}", Told(answer))?;
-        for place in 0..answer.rows() {
-            print!(rt; " row {}", entry_at(&rows.view(), place))?;
-        }
         // The whole lists, whatever the turn lent of them.
+        let handed = FieldsView {
+            codes: &row_codes,
+            stamps: &row_stamps,
+            values: &row_values,
+            weights: &row_weights,
+        };
+        for place in 0..answer.rows() {
+            print!(rt; " row {}", entry_at(&handed, place))?;
+        }
         let whole = View {
             head,
             fields: FieldsView {

@@ -1,5 +1,5 @@
 // The damages to a state, and what inspection and the plain check say of each.
-use crate::sheet::{List, MOST_CAPACITY, NONE, State, UNUSED};
+use crate::sheet::{List, MOST_CAPACITY, NONE, PLACES, State, UNUSED};
 use std::fmt;
 use test_kit::{Count, shaken};
 
@@ -198,11 +198,18 @@ impl Trial {
     }
 }
 
-// A place whose number the slots need: one of the head's nine, or of the nine that each slot has in the lists, two cells among them.
+// A place whose number the slots need: one of the head's nine, or of the nine that each slot has in the lists, two cells among them. The lists stand behind
+// the head, PLACES apart, and the cells last.
 fn drawn_place(state: &State, seed: u64) -> usize {
-    let needed = 9 + 9 * u64::from(state.head.slots);
-    (0..State::NUMBERS)
-        .filter(|place| state.needs(*place))
-        .nth((seed % needed) as usize)
-        .unwrap_or(0)
+    let slots = state.head.slots as usize;
+    let drawn = (seed % (9 + 9 * slots as u64)) as usize;
+    if drawn < 9 {
+        return drawn;
+    }
+    let needed = drawn - 9;
+    if needed < 7 * slots {
+        9 + needed / slots * PLACES + needed % slots
+    } else {
+        9 + 7 * PLACES + (needed - 7 * slots)
+    }
 }

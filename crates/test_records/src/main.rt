@@ -5,7 +5,7 @@ ghost use Rattle.state.specs.State.{held, lent, seen};
 ghost use Rattle.test_records.specs.Eight.{Lists, ListsTold};
 
 use head::{Answer, Code, Command, Head, Row, Rule};
-use state::{Fields, FieldsView, Links, State, View};
+use state::{Fields, Links, State, View};
 use std::{fmt, io};
 
 // The rows of a call, in eight records that are blank at first.
@@ -113,6 +113,16 @@ impl Rows {
         }
     }
 
+    // The row at a place; in each list 0 past its end. They are read here: what the library wrote and read exchanged would not show.
+    fn row(&self, place: usize) -> Row {
+        Row {
+            code: Code(self.codes.get(place).copied().unwrap_or(0)),
+            stamp: self.stamps.get(place).copied().unwrap_or(0),
+            value: self.values.get(place).copied().unwrap_or(0),
+            weight: self.weights.get(place).copied().unwrap_or(0),
+        }
+    }
+
     // The lists, lent to be written.
     fn lent(&mut self) -> Fields<'_> {
         let Rows {
@@ -203,7 +213,7 @@ fn show(
     rt: &impl Print,
     i: usize,
     answer: Answer,
-    rows: &FieldsView<'_>,
+    rows: &Rows,
     records: &[Row; 8],
 ) -> io::Result<()> {
     print!(rt; "call {i}")?;
@@ -212,10 +222,8 @@ fn show(
     }
     let n = answer.rows();
     print!(rt; ": rows {n}\n  numbers")?;
-    for k in 0..n {
-        if (k as usize) < rows.room() {
-            print!(rt; " {}", Bracketed(rows.read(k)))?;
-        }
+    for k in 0..n.min(8) {
+        print!(rt; " {}", Bracketed(rows.row(k as usize)))?;
     }
     print!(rt; "\n  records")?;
     for row in records.iter().take(n as usize) {
@@ -233,7 +241,7 @@ fn main(rt: HostRuntime) -> io::Result<()> {
         let mut lists = Rows::blank();
         let mut rows = lists.lent();
         let answer = cache.call(&mut rows, *call);
-        show(&rt, i, answer, &rows.view(), &records)?;
+        show(&rt, i, answer, &lists, &records)?;
     }
     Ok(())
 }

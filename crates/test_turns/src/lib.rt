@@ -1,7 +1,7 @@
 // A fixed list of turns over the public calls: what each asks, how it is asked, and how it is told.
 #![tactic(auto)]
 
-ghost use Rattle.std.specs.Prelude.{◌≡◌, ◌≤◌, IfNone};
+ghost use Rattle.std.specs.Prelude.{◌≡◌, ◌<◌, ◌≤◌, IfNone};
 
 use head::{Code, Command, Head, Place, Rule, Slot};
 use std::fmt;
@@ -239,8 +239,11 @@ fn swept(number: u32, low: u64, high: u64) -> Turn {
 }
 
 // Opening refused: kind, capacity, slots, and each list one short; then allowed.
-fn openings() -> [Turn; 23] {
-    [
+#[inline(never)]
+fn openings(place: usize) -> Turn
+    requires { place < 23 }
+{
+    let turns = [
         asked(Command::Len),
         put(1, 7, 100),
         opening(2, 10, 4),
@@ -264,12 +267,16 @@ fn openings() -> [Turn; 23] {
         asked(Command::Back),
         opening(1, 1, 1),
         asked(Command::IsEmpty),
-    ]
+    ];
+    turns[place]
 }
 
 // Examples A, B and C: what pushes out whom.
-fn orders() -> [Turn; 18] {
-    [
+#[inline(never)]
+fn orders(place: usize) -> Turn
+    requires { place < 18 }
+{
+    let turns = [
         opening(0, 2, 2),
         put(1, 7, 100),
         put(2, 7, 200),
@@ -288,12 +295,16 @@ fn orders() -> [Turn; 18] {
         put(3, 7, 300),
         contains(1),
         contains(2),
-    ]
+    ];
+    turns[place]
 }
 
 // Examples D and K: a stamp kept and replaced, a ceiling passed over.
-fn stamps() -> [Turn; 17] {
-    [
+#[inline(never)]
+fn stamps(place: usize) -> Turn
+    requires { place < 17 }
+{
+    let turns = [
         opening(0, 3, 3),
         put(1, 7, 100),
         put(1, 8, 101),
@@ -311,12 +322,16 @@ fn stamps() -> [Turn; 17] {
         added(3, 8, 18446744073709551615),
         tried(3, 8, 18446744073709551615, 18446744073709551615),
         asked(Command::List),
-    ]
+    ];
+    turns[place]
 }
 
 // Examples E, F and G: weights.
-fn weights_run() -> [Turn; 20] {
-    [
+#[inline(never)]
+fn weights_run(place: usize) -> Turn
+    requires { place < 20 }
+{
+    let turns = [
         opening(1, 10, 4),
         weighed(1, 7, 100, 3),
         weighed(2, 7, 200, 4),
@@ -337,12 +352,16 @@ fn weights_run() -> [Turn; 20] {
         weighed(1, 7, 100, 1),
         weighed(1, 7, 100, 0),
         asked(Command::IsFull),
-    ]
+    ];
+    turns[place]
 }
 
 // Examples H, I and J: resizing, with and without holes; and a shrink that leaves two slots free, of which the higher is taken first.
-fn sizes() -> [Turn; 30] {
-    [
+#[inline(never)]
+fn sizes(place: usize) -> Turn
+    requires { place < 30 }
+{
+    let turns = [
         opening(1, 10, 4),
         weighed(1, 7, 100, 3),
         weighed(2, 7, 200, 4),
@@ -373,12 +392,16 @@ fn sizes() -> [Turn; 30] {
         pop(4),
         asked(Command::Resize(5)),
         put(6, 7, 600),
-    ]
+    ];
+    turns[place]
 }
 
 // Examples L and M: every slot taken, and a sweep with too few rows.
-fn slots_run() -> [Turn; 18] {
-    [
+#[inline(never)]
+fn slots_run(place: usize) -> Turn
+    requires { place < 18 }
+{
+    let turns = [
         opening(0, 5, 2),
         put(1, 7, 100),
         put(2, 7, 200),
@@ -397,12 +420,16 @@ fn slots_run() -> [Turn; 18] {
         weighed(2, 7, 200, 0),
         weighed(3, 7, 300, 0),
         weighed(3, 7, 300, 9),
-    ]
+    ];
+    turns[place]
 }
 
 // Too few rows lent: by all four lists, and by each alone.
-fn rows_run() -> [Turn; 23] {
-    [
+#[inline(never)]
+fn rows_run(place: usize) -> Turn
+    requires { place < 23 }
+{
+    let turns = [
         opening(0, 2, 4),
         put(1, 7, 100),
         put(2, 7, 200),
@@ -426,12 +453,16 @@ fn rows_run() -> [Turn; 23] {
         weighed(4, 7, 400, 7).lending(List::Rows, 2),
         asked(Command::Resize(1)).lending(List::RowValues, 0),
         asked(Command::Resize(1)).lending(List::RowValues, 2),
-    ]
+    ];
+    turns[place]
 }
 
 // The wrong kind, strange rules and capacities, too heavy: and that 8 comes before 3, 3 before 4, 4 before 5 and 6.
-fn kinds() -> [Turn; 27] {
-    [
+#[inline(never)]
+fn kinds(place: usize) -> Turn
+    requires { place < 27 }
+{
+    let turns = [
         opening(1, 10, 2),
         weighed(1, 7, 100, 2),
         weighed(2, 7, 200, 3),
@@ -459,12 +490,16 @@ fn kinds() -> [Turn; 27] {
         asked(Command::FrontMut(5)),
         asked(Command::BackMut(6)),
         peek(1),
-    ]
+    ];
+    turns[place]
 }
 
 // Setting values, and readers on both ends.
-fn setting() -> [Turn; 30] {
-    [
+#[inline(never)]
+fn setting(place: usize) -> Turn
+    requires { place < 30 }
+{
+    let turns = [
         opening(0, 4, 4),
         asked(Command::FrontMut(1)),
         asked(Command::BackMut(1)),
@@ -495,12 +530,16 @@ fn setting() -> [Turn; 30] {
         asked(Command::Clear),
         asked(Command::Len),
         put(5, 5, 500),
-    ]
+    ];
+    turns[place]
 }
 
 // Sweeps by each rule, kept and negated, and on a range that holds nothing.
-fn sweeps() -> [Turn; 20] {
-    [
+#[inline(never)]
+fn sweeps(place: usize) -> Turn
+    requires { place < 20 }
+{
+    let turns = [
         opening(1, 40, 8),
         weighed(1, 5, 100, 1),
         weighed(2, 6, 200, 2),
@@ -521,12 +560,16 @@ fn sweeps() -> [Turn; 20] {
         weighed(8, 8, 800, 8),
         kept(Rule::VALUE, 900, 100),
         asked(Command::Weight),
-    ]
+    ];
+    turns[place]
 }
 
 // Calls at the door, as any command: the same turns as some above.
-fn doors() -> [Turn; 26] {
-    [
+#[inline(never)]
+fn doors(place: usize) -> Turn
+    requires { place < 26 }
+{
+    let turns = [
         opening(0, 3, 4),
         put(1, 7, 100).at_door(),
         weighed(2, 7, 200, 0).at_door(),
@@ -553,12 +596,16 @@ fn doors() -> [Turn; 26] {
         asked(Command::PopFront).at_door(),
         asked(Command::PopBack).at_door(),
         asked(Command::Clear).at_door(),
-    ]
+    ];
+    turns[place]
 }
 
 // Heads damaged, one number at a time, and lists too short: all refused, and the cache goes on.
-fn damages() -> [Turn; 34] {
-    [
+#[inline(never)]
+fn damages(place: usize) -> Turn
+    requires { place < 34 }
+{
+    let turns = [
         opening(1, 20, 4),
         weighed(1, 7, 100, 2),
         weighed(2, 7, 200, 3),
@@ -593,12 +640,16 @@ fn damages() -> [Turn; 34] {
         asked(Command::List),
         get(1),
         weighed(5, 7, 500, 1),
-    ]
+    ];
+    turns[place]
 }
 
 // A weighed cache of three and four entries: both ends, looked at and taken, codes sought, listings either way, and all cleared.
-fn weighed_ends() -> [Turn; 32] {
-    [
+#[inline(never)]
+fn weighed_ends(place: usize) -> Turn
+    requires { place < 32 }
+{
+    let turns = [
         opening(1, 30, 5),
         weighed(1, 5, 100, 4),
         weighed(2, 6, 200, 0),
@@ -631,37 +682,33 @@ fn weighed_ends() -> [Turn; 32] {
         asked(Command::ListBack).at_door(),
         asked(Command::Clear),
         asked(Command::List),
-    ]
+    ];
+    turns[place]
 }
 
 // How many turns there are.
 pub const TURNS: u32 = 318;
 
-// Turn i, scene by scene; a listing past the last one.
+// Turn i, scene by scene; a listing past the last one. A function pays at entry for all that it holds: so each scene is one of its own, out of line, and only the one
+// that has the turn is made.
 pub fn turn_at(i: u32) -> Turn {
-    let scenes: [&[Turn]; 13] = [
-        &openings(),
-        &orders(),
-        &stamps(),
-        &weights_run(),
-        &sizes(),
-        &slots_run(),
-        &rows_run(),
-        &kinds(),
-        &setting(),
-        &sweeps(),
-        &doors(),
-        &damages(),
-        &weighed_ends(),
-    ];
-    let mut place = i as usize;
-    for scene in scenes {
-        if let Some(turn) = scene.get(place) {
-            return *turn;
-        }
-        place = place.saturating_sub(scene.len());
+    let i = i as usize;
+    match i {
+        0..=22 => openings(i),
+        23..=40 => orders(i - 23),
+        41..=57 => stamps(i - 41),
+        58..=77 => weights_run(i - 58),
+        78..=107 => sizes(i - 78),
+        108..=125 => slots_run(i - 108),
+        126..=148 => rows_run(i - 126),
+        149..=175 => kinds(i - 149),
+        176..=205 => setting(i - 176),
+        206..=225 => sweeps(i - 206),
+        226..=251 => doors(i - 226),
+        252..=285 => damages(i - 252),
+        286..=317 => weighed_ends(i - 286),
+        _ => asked(Command::List),
     }
-    asked(Command::List)
 }
 
 // ---- how a turn is told
