@@ -20,7 +20,7 @@ pub struct Entry {
 }
 
 // The entries, front first, of which the first `live` count; the pile of free slots, of which the first `depth` count and the last of these is taken first; and the
-// first slot never used.
+// first slot never used. Arrays with their counts: an order is Copy, and an ArrayVec is not.
 #[derive(Clone, Copy)]
 pub struct Order {
     pub entries: [Entry; 16],

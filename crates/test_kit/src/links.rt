@@ -86,7 +86,7 @@ impl Links {
     }
 }
 
-// The low 32 bits.
+// The low 32 bits: slots and counts come as numbers of 64, so that a caller need not cut them.
 fn narrow(x: u64) -> u32 {
     (x % 4294967296) as u32
 }
