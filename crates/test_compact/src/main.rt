@@ -5,6 +5,7 @@
 ghost use Rattle.std.specs.Prelude.{◌≡◌, true};
 ghost use Rattle.state.specs.State.{seen};
 ghost use Rattle.compact.specs.Compact.{Resizable};
+ghost use Rattle.test_kit.specs.Orders.{Within};
 
 use head::{Code, Head, Place, Row, Slot};
 use state::{State, View};
@@ -254,6 +255,7 @@ struct World {
     capacity: u64,
     seed: u64,
     tally: Tally,
+    ghost within: { Within order },
 }
 
 impl World {
@@ -297,7 +299,8 @@ impl World {
                 self.order.push(mark);
             }
             Act::Remove(place) => {
-                self.lists.remove(u64::from(self.order.slot_at(place).0));
+                let slot = u64::from(self.order.slot_at(place).0);
+                self.lists.remove(slot);
                 self.order.remove(place);
             }
             Act::Evict(count) => self.evict(count),

@@ -1,6 +1,8 @@
 // Drives the list and a plain order of slots through the same acts, compares the two after each, and writes how many agreed.
 #![tactic(auto)]
 
+ghost use Rattle.test_kit.specs.Orders.{Within};
+
 use head::Head;
 use std::io;
 use test_kit::line::Order;
@@ -65,6 +67,7 @@ struct World {
     order: Order,
     seed: u64,
     tally: Tally,
+    ghost within: { Within order },
 }
 
 impl World {
@@ -90,11 +93,13 @@ impl World {
                 self.order.push(0);
             }
             Act::Remove(place) => {
-                self.list.remove(u64::from(self.order.slot_at(place).0));
+                let slot = u64::from(self.order.slot_at(place).0);
+                self.list.remove(slot);
                 self.order.remove(place);
             }
             Act::Move(place) => {
-                self.list.raise(u64::from(self.order.slot_at(place).0));
+                let slot = u64::from(self.order.slot_at(place).0);
+                self.list.raise(slot);
                 self.order.raise(place);
             }
             Act::Evict(count) => {
